@@ -1,0 +1,106 @@
+-- The laws of counts, tests and lists over the places below n. Assumes nothing.
+use Prim.Native.Nat.{ℕ, zero, suc, _+_, _≤_, _<_}
+use native.Mathlib.Nat.{eq-or-lt-of-le, le-of-suc-le-suc}
+use native.Mathlib.Numerals.{add-one}
+use native.Mathlib.Omega.{arith}
+use mathlib.Core.Bool.{Bool, true, false, _||_, or-true, true≢false}
+use mathlib.Core.List.{List, [], _∷_, _++_, append-assoc}
+use mathlib.Core.Logic.{⊎-elim}
+use mathlib.Core.Path.{_≡_, refl, sym, ap, ap₂, _∙_}
+use lib.ListN.{length, getD, set, drop, length-append, List·getD-append}
+use lib.Seq.{drop-cons, set-at, getD-at}
+use Rattle.places.specs.Below.{one, countBelow, anyBelow, listBelow}
+
+-- what does not change at any place from k up to m is at m as at k
+pub still {ℓ} : {A : Type ℓ} (g : ℕ → A) (k m : ℕ) → k ≤ m → ((i : ℕ) → k ≤ i → i < m → g (suc i) ≡ g i) → g m ≡ g k
+still g k zero le same = let e : k ≡ 0 = omega arith in rw e
+still g k (suc m) le same =
+    ⊎-elim
+    (λ e. rw e)
+    (λ l. same m (omega arith) (omega arith) ∙ still g k m (omega arith) (λ i a b. same i a (omega arith)))
+    (eq-or-lt-of-le le)
+
+-- ---- counts
+
+pub count-none : (t : ℕ → Bool) (i : ℕ) → t i ≡ false → countBelow t (suc i) ≡ countBelow t i
+unfolding countBelow
+count-none t i e = rw e (omega arith)
+
+-- no place from k up to m passes the test
+pub count-rest : (t : ℕ → Bool) (k m : ℕ) → k ≤ m → ((i : ℕ) → k ≤ i → i < m → t i ≡ false) → countBelow t m ≡ countBelow t k
+count-rest t k m le empty = still (countBelow t) k m le (λ i a b. count-none t i (empty i a b))
+
+pub count-same : (t u : ℕ → Bool) (n : ℕ) → ((i : ℕ) → i < n → t i ≡ u i) → countBelow t n ≡ countBelow u n
+unfolding countBelow
+count-same t u zero same = refl
+count-same t u (suc n) same =
+    ap₂ (λ (x : ℕ) (b : Bool). x + one b) (count-same t u n (λ i h. same i (omega arith))) (same n (omega arith))
+
+-- m places, and n more
+pub count-add : (t : ℕ → Bool) (m n : ℕ) → countBelow t (m + n) ≡ countBelow t m + countBelow (λ i. t (m + i)) n
+unfolding countBelow
+count-add t m zero = let e : m + 0 ≡ m = omega arith in rw e (omega arith)
+count-add t m (suc n) =
+    let e : m + suc n ≡ suc (m + n) = omega arith in
+    rw e (let h = count-add t m n in omega arith)
+
+one-most : (b : Bool) → one b ≤ 1
+one-most true = omega arith
+one-most false = omega arith
+
+pub count-most : (t : ℕ → Bool) (n : ℕ) → countBelow t n ≤ n
+unfolding countBelow
+count-most t zero = omega arith
+count-most t (suc n) = omega (arith, count-most t n, one-most (t n))
+
+-- ---- some place
+
+pub any-false : (t : ℕ → Bool) (n i : ℕ) → anyBelow t n ≡ false → i < n → t i ≡ false
+unfolding anyBelow
+any-false t zero i e h = absurd (omega arith)
+any-false t (suc n) i e h = go (anyBelow t n) (t n) refl refl e (any-false t n i)
+  where
+    go : (a b : Bool) → anyBelow t n ≡ a → t n ≡ b → (a || b) ≡ false → (anyBelow t n ≡ false → i < n → t i ≡ false) → t i ≡ false
+    go false false p q r rest = ⊎-elim (λ same. rw same q) (λ l. rest p (omega arith)) (eq-or-lt-of-le (le-of-suc-le-suc h))
+    go false true p q r rest = absurd (true≢false r)
+    go true b p q r rest = absurd (true≢false r)
+
+pub any-none : (t : ℕ → Bool) (n : ℕ) → ((i : ℕ) → i < n → t i ≡ false) → anyBelow t n ≡ false
+unfolding anyBelow
+any-none t zero all = refl
+any-none t (suc n) all = rw (any-none t n (λ i h. all i (omega arith)), all n (omega arith))
+
+pub any-true : (t : ℕ → Bool) (n i : ℕ) → i < n → t i ≡ true → anyBelow t n ≡ true
+unfolding anyBelow
+any-true t zero i h e = absurd (omega arith)
+any-true t (suc n) i h e =
+    ⊎-elim
+    (λ same. let q : t n ≡ true = rw (← same) e in rw (q, or-true))
+    (λ l. rw (any-true t n i (omega arith) e))
+    (eq-or-lt-of-le (le-of-suc-le-suc h))
+
+-- ---- lists
+
+pub length-below {ℓ} : {A : Type ℓ} (f : ℕ → A) (n : ℕ) → length (listBelow f n) ≡ n
+unfolding listBelow
+length-below f zero = refl
+length-below f (suc n) = rw (length-append, length-below f n) (omega arith)
+
+pub at-below {ℓ} : {A : Type ℓ} (f : ℕ → A) (n i : ℕ) (z : A) → i < n → getD (listBelow f n) i z ≡ f i
+unfolding listBelow
+at-below f zero i z h = absurd (omega arith)
+at-below f (suc n) i z h =
+    ⊎-elim
+    (λ same. rw same (getD-at (listBelow f n) (f n) [] z n (length-below f n)))
+    (λ l. let m : i < n = omega arith in List·getD-append (listBelow f n) (f n ∷ []) z i (rw (length-below f n) m) ∙ at-below f n i z m)
+    (eq-or-lt-of-le (le-of-suc-le-suc h))
+
+pub list-same {ℓ} : {A : Type ℓ} (f g : ℕ → A) (n : ℕ) → ((i : ℕ) → i < n → f i ≡ g i) → listBelow f n ≡ listBelow g n
+unfolding listBelow
+list-same f g zero same = refl
+list-same f g (suc n) same = rw (list-same f g n (λ i h. same i (omega arith)), same n (omega arith))
+
+-- a store at the end of what was stored
+pub store {ℓ} : {A : Type ℓ} (f : ℕ → A) (old : List A) (n : ℕ) → n < length old → set (listBelow f n ++ drop n old) n (f n) ≡ listBelow f (n + 1) ++ drop (n + 1) old
+unfolding listBelow
+store f old n h = rw (add-one, drop-cons old n (f n) h, set-at (listBelow f n) (getD old n (f n)) (drop (suc n) old) (f n) n (length-below f n), append-assoc)

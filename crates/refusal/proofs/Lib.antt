@@ -1,0 +1,2 @@
+-- Laws of the shared definitions.
+pub mod Spans

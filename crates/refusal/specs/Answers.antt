@@ -1,0 +1,99 @@
+-- What a call answers. The tests of a call stand in one chain, and the first that holds is the refusal. Each kind of answer says which
+-- number and place of document 01 its cases stand for, and what it is where nothing is refused.
+use Prim.Native.Nat.{ℕ}
+use mathlib.Core.Bool.{Bool, true, false, cond}
+use mathlib.Core.List.{List, _++_}
+use mathlib.Core.Path.{_≡_}
+use lib.ListN.{length, drop}
+use lib.Ieee.{Float}
+use Rattle.refusal.specs.declared.Checked.{Checked}
+use Rattle.refusal.specs.declared.Checked.the-variants.{Valid, Refused}
+use Rattle.refusal.specs.declared.Distance.{Distance}
+use Rattle.refusal.specs.declared.Distance.the-variants.{Value, Refused as NoDistance}
+use Rattle.refusal.specs.declared.Written.{Written}
+use Rattle.refusal.specs.declared.Written.the-variants.{Done, Refused as NotWritten}
+use Rattle.refusal.specs.declared.Asked.{Asked}
+use Rattle.refusal.specs.declared.Asked.the-variants.{Yes, No, Refused as NotAsked}
+use Rattle.refusal.specs.declared.Ordering.{Ordering}
+use Rattle.refusal.specs.declared.Ordering.the-variants.{Less, Equal, Greater, Unordered, Refused as NoOrder}
+
+-- ---- the tests of a call, in their order
+
+-- the number n with the place p if the test holds, and what the later tests find if not
+abbrev pub refuse : Bool → ℕ → ℕ → Checked → Checked
+refuse test n p later = cond test (Refused n p) later
+
+-- what the first tests find, and what the later ones find where the first find nothing
+abbrev pub next : Checked → Checked → Checked
+next Valid later = later
+next (Refused n p) later = Refused n p
+
+-- ---- an answer in the words of document 01
+
+-- the number of an answer and the place it carries; 0 is done, and carries 0
+pub record Says : Type 0 where
+  pub number : ℕ
+  pub place : ℕ
+
+abbrev pub says : ℕ → ℕ → Says
+says n p = record { number = n; place = p }
+
+abbrev pub checkedSays : Checked → Says
+checkedSays Valid = says 0 0
+checkedSays (Refused n p) = says n p
+
+abbrev pub distanceSays : Distance → Says
+distanceSays (Value x) = says 0 0
+distanceSays (NoDistance n p) = says n p
+
+abbrev pub writtenSays : Written → Says
+writtenSays (Done d len) = says 0 0
+writtenSays (NotWritten n p) = says n p
+
+abbrev pub askedSays : Asked → Says
+askedSays Yes = says 0 0
+askedSays No = says 0 0
+askedSays (NotAsked n p) = says n p
+
+abbrev pub orderSays : Ordering → Says
+orderSays Less = says 0 0
+orderSays Equal = says 0 0
+orderSays Greater = says 0 0
+orderSays Unordered = says 0 0
+orderSays (NoOrder n p) = says n p
+
+-- ---- the answer of a call, where its tests find `due`
+
+abbrev pub distanceOf : Float → Checked → Distance
+distanceOf x Valid = Value x
+distanceOf x (Refused n p) = NoDistance n p
+
+abbrev pub writtenOf : ℕ → ℕ → Checked → Written
+writtenOf d len Valid = Done d len
+writtenOf d len (Refused n p) = NotWritten n p
+
+abbrev pub askedOf : Bool → Checked → Asked
+askedOf true Valid = Yes
+askedOf false Valid = No
+askedOf b (Refused n p) = NotAsked n p
+
+abbrev pub orderOf : Ordering → Checked → Ordering
+orderOf o Valid = o
+orderOf o (Refused n p) = NoOrder n p
+
+-- the call's number and place are those of the first test that holds, and the answer is `give` of what the tests find
+pub record Answers {A : Type 0} (saysOf : A → Says) (give : Checked → A) (due : Checked) (r : A) : Type 0 where
+  pub told : saysOf r ≡ checkedSays due
+  pub answer : r ≡ give due
+
+-- ---- what a call leaves in a lent output
+
+-- "A refusal changes nothing that was lent. On success an output holds the answer in its first n entries and is unchanged after them."
+abbrev pub leaves {ℓ} : {A : Type ℓ} → Checked → List A → List A → List A
+leaves Valid new old = new ++ drop (length new) old
+leaves (Refused n p) new old = old
+
+-- a vector of d places is written as the list `new`
+pub record Writes (due : Checked) (d : ℕ) (new old : List ℕ) (r : Written) (left : List ℕ) : Type 0 where
+  pub answer : Answers writtenSays (writtenOf d (length new)) due r
+  pub output : left ≡ leaves due new old

@@ -1,0 +1,4 @@
+-- The definitions that every crate's contracts share.
+pub mod Numbers
+pub mod Answers
+pub mod Bounds
