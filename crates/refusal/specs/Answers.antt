@@ -64,6 +64,9 @@ orderSays (NoOrder n p) = says n p
 
 -- ---- the answer of a call, where its tests find `due`
 
+abbrev pub same : Checked → Checked
+same due = due
+
 abbrev pub distanceOf : Float → Checked → Distance
 distanceOf x Valid = Value x
 distanceOf x (Refused n p) = NoDistance n p

@@ -5,19 +5,33 @@ ghost use mathlib.Core.Path.{_≡_};
 ghost use Rattle.refusal.specs.Bounds.{startOf, endOf, spanOf};
 
 pub const DONE: u32 = 0;
+
 pub const DIMS: u32 = 1;
+
 pub const LENGTH: u32 = 2;
+
 pub const ORDER: u32 = 3;
+
 pub const INDEX: u32 = 4;
+
 pub const ZERO: u32 = 5;
+
 pub const PADDING: u32 = 6;
+
 pub const DIFFER: u32 = 7;
+
 pub const BOUNDS: u32 = 8;
+
 pub const ROOM: u32 = 9;
+
 pub const NEED: u32 = 10;
+
 pub const COUNT: u32 = 11;
+
 pub const NOT_BEGUN: u32 = 12;
+
 pub const STATE: u32 = 13;
+
 pub const NOT_NEEDED: u32 = 14;
 
 // What tests find: nothing to refuse, or the first refusal that applies, with the place it carries.

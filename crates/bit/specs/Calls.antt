@@ -1,0 +1,76 @@
+-- What the calls on bit vectors refuse, in their order, and what they answer.
+use Prim.Native.Nat.{ℕ, _+_, _-_, _*_, _≤_, _<_}
+use mathlib.Core.Bool.{Bool, true, false, not, _&&_, _||_}
+use mathlib.Core.List.{List}
+use mathlib.Core.Path.{_≡_}
+use lib.Dec.{leb, ltb, eqb}
+use lib.ListN.{length}
+use Rattle.places.specs.Below.{anyBelow, countBelow}
+use Rattle.refusal.specs.Numbers.{DIMS, LENGTH, PADDING, DIFFER, ROOM}
+use Rattle.refusal.specs.Answers.{refuse, next, Says, says, Answers, Writes}
+use Rattle.refusal.specs.declared.Checked.{Checked}
+use Rattle.refusal.specs.declared.Checked.the-variants.{Valid, Refused}
+use Rattle.bit.specs.Bits.{bitAt, meets, wordsFor, wordsOf}
+use Rattle.refusal.specs.declared.Written.{Written}
+use Rattle.bit.specs.declared.Op.{Op}
+use Rattle.bit.specs.declared.Op.the-variants.{And, Or}
+use Rattle.bit.specs.declared.Count.{Count}
+use Rattle.bit.specs.declared.Count.the-variants.{Ones, Refused as NoCount}
+use Rattle.bit.specs.declared.Counts.{Counts}
+use Rattle.bit.specs.declared.Counts.the-variants.{Ones as Both, Refused as NoCounts}
+
+-- "dims in 1..=65,535" does not hold
+abbrev pub badDims : ℕ → Bool
+badDims d = eqb d 0 || ltb 65535 d
+
+-- a padding bit is set: a bit of the last word at or above dims
+unfoldable pub padded : ℕ → List ℕ → Bool
+padded d ws = anyBelow (λ i. leb d i && bitAt ws i) (64 * length ws)
+
+-- "Bits: dims in 1..=65,535; exactly ceil(dims/64) words; bits of the last word at and above dims mod 64 are zero"
+unfoldable pub checkedOf : ℕ → List ℕ → Checked
+checkedOf d ws =
+    refuse (badDims d) DIMS 0
+    (refuse (not (eqb (length ws) (wordsFor d))) LENGTH 0
+    (refuse (padded d ws) PADDING (length ws - 1)
+    Valid))
+
+-- "Left vector first (1 to 6), then right, then 7"
+abbrev pub pairOf : ℕ → List ℕ → ℕ → List ℕ → Checked
+pairOf d a e b = next (checkedOf d a) (next (checkedOf e b) (refuse (not (eqb d e)) DIFFER 0 Valid))
+
+-- an output of `room` words has no room for a vector of d bits
+abbrev pub roomOf : ℕ → ℕ → Checked
+roomOf d room = refuse (ltb room (wordsFor d)) ROOM (wordsFor d) Valid
+
+-- ---- the answers of counts
+
+abbrev pub countSays : Count → Says
+countSays (Ones n) = says 0 0
+countSays (NoCount n p) = says n p
+
+abbrev pub countOf : ℕ → Checked → Count
+countOf n Valid = Ones n
+countOf n (Refused m p) = NoCount m p
+
+abbrev pub countsSays : Counts → Says
+countsSays (Both m n) = says 0 0
+countsSays (NoCounts n p) = says n p
+
+abbrev pub countsOf : ℕ → ℕ → Checked → Counts
+countsOf m n Valid = Both m n
+countsOf m n (Refused k p) = NoCounts k p
+
+-- ---- what the calls promise
+
+-- how many places below dims have a one in the two vectors put together
+abbrev pub Sums : Op → ℕ → List ℕ → ℕ → List ℕ → Count → Type 0
+Sums op d a e b r = Answers countSays (countOf (countBelow (meets op a b) d)) (pairOf d a e b) r
+
+-- the same for AND and for OR
+abbrev pub SumsBoth : ℕ → List ℕ → ℕ → List ℕ → Counts → Type 0
+SumsBoth d a e b r = Answers countsSays (countsOf (countBelow (meets And a b) d) (countBelow (meets Or a b) d)) (pairOf d a e b) r
+
+-- the two vectors put together, written to an output
+abbrev pub Combines : Op → ℕ → List ℕ → ℕ → List ℕ → List ℕ → Written → List ℕ → Type 0
+Combines op d a e b old r left = Writes (next (pairOf d a e b) (roomOf d (length old))) d (wordsOf d (meets op a b)) old r left

@@ -1,0 +1,4 @@
+-- The definitions that the contracts of `bvect` cite.
+pub mod Orders
+pub mod Distances
+pub mod Calls
