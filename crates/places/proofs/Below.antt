@@ -5,11 +5,15 @@ use native.Mathlib.Numerals.{add-one}
 use native.Mathlib.Omega.{arith}
 use mathlib.Core.Bool.{Bool, true, false, _||_, or-true, true≢false}
 use mathlib.Core.List.{List, [], _∷_, _++_, append-assoc}
-use mathlib.Core.Logic.{⊎-elim}
+use mathlib.Core.Logic.{_⊎_, inl, inr, ⊎-elim}
+use native.Mathlib.Decide.{decLe}
 use mathlib.Core.Path.{_≡_, refl, sym, ap, ap₂, _∙_}
-use lib.ListN.{length, getD, set, drop, length-append, List·getD-append}
+use lib.ListN.{length, getD, set, drop, length-append, length-drop, List·getD-append}
 use lib.Seq.{drop-cons, set-at, getD-at}
 use Rattle.places.specs.Below.{one, countBelow, anyBelow, listBelow}
+
+pub le-or-lt : (m n : ℕ) → (m ≤ n) ⊎ (n < m)
+le-or-lt m n = elim (decLe m n) [ yes h ↦ inl h | no h ↦ inr (omega arith) ]
 
 -- what does not change at any place from k up to m is at m as at k
 pub still {ℓ} : {A : Type ℓ} (g : ℕ → A) (k m : ℕ) → k ≤ m → ((i : ℕ) → k ≤ i → i < m → g (suc i) ≡ g i) → g m ≡ g k
@@ -44,7 +48,13 @@ count-add t m (suc n) =
     let e : m + suc n ≡ suc (m + n) = omega arith in
     rw e (let h = count-add t m n in omega arith)
 
-one-most : (b : Bool) → one b ≤ 1
+-- the first place, and those after it
+pub count-first : (t : ℕ → Bool) (n : ℕ) → countBelow t (suc n) ≡ one (t 0) + countBelow (λ i. t (1 + i)) n
+unfolding countBelow
+count-first t zero = omega arith
+count-first t (suc n) = let e : 1 + n ≡ suc n = omega arith in rw e (omega (arith, count-first t n))
+
+pub one-most : (b : Bool) → one b ≤ 1
 one-most true = omega arith
 one-most false = omega arith
 
@@ -104,3 +114,7 @@ list-same f g (suc n) same = rw (list-same f g n (λ i h. same i (omega arith)),
 pub store {ℓ} : {A : Type ℓ} (f : ℕ → A) (old : List A) (n : ℕ) → n < length old → set (listBelow f n ++ drop n old) n (f n) ≡ listBelow f (n + 1) ++ drop (n + 1) old
 unfolding listBelow
 store f old n h = rw (add-one, drop-cons old n (f n) h, set-at (listBelow f n) (getD old n (f n)) (drop (suc n) old) (f n) n (length-below f n), append-assoc)
+
+-- what was stored, in front of what is left, is as long as what was there
+pub written-length {ℓ} : {A : Type ℓ} (f : ℕ → A) (n : ℕ) (old : List A) → n ≤ length old → length (listBelow f n ++ drop n old) ≡ length old
+written-length f n old h = rw (length-append, length-below, length-drop) (omega arith)

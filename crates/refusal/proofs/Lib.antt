@@ -1,2 +1,4 @@
 -- Laws of the shared definitions.
 pub mod Spans
+pub mod Chains
+pub mod Told

@@ -1,0 +1,6 @@
+-- Laws of bits and words.
+pub mod Bits
+pub mod Vectors
+pub mod Checks
+pub mod Pairs
+pub mod Counted

@@ -1,0 +1,76 @@
+-- Two vectors that passed, put together: what their words have is what their bits have. Assumes nothing.
+use Prim.Native.Nat.{ℕ, _+_, _-_, _*_, _/_, _^_, _≤_, _<_}
+use native.Mathlib.Omega.{arith}
+use mathlib.Core.Bool.{Bool, true, false, not, _&&_, and-self}
+use mathlib.Core.List.{List}
+use mathlib.Core.Logic.{_⊎_, inl, inr, ⊎-elim}
+use mathlib.Core.Path.{_≡_, refl, sym, ap, _∙_}
+use lib.Dec.{ltb, eqb}
+use lib.ListN.{length, getD}
+use borrow.Author.Tests.{lt-ltb, le-ltb, eqb-true}
+use Rattle.places.specs.Below.{countBelow, listBelow}
+use Rattle.places.proofs.Below.{count-rest, count-same, list-same, length-below, le-or-lt}
+use Rattle.refusal.specs.Answers.{refuse, next}
+use Rattle.refusal.specs.declared.Checked.the-variants.{Valid}
+use Rattle.refusal.proofs.Chains.{refused-valid, next-valid}
+use Rattle.bit.specs.Bits.{bitOf, bitAt, both, meets, join, cut, wordFrom, wordsFor, wordsOf}
+use Rattle.bit.specs.Calls.{checkedOf, pairOf}
+use Rattle.bit.specs.Words.{Alike, onesOf, joins}
+use Rattle.bit.specs.declared.Op.{Op}
+use Rattle.bit.specs.declared.Op.the-variants.{And, Or, Xor}
+use Rattle.bit.proofs.Bits.{join-lt, word-is}
+use Rattle.bit.proofs.Vectors.{bit-past, meets-at}
+use Rattle.bit.proofs.Checks.{Sound, sound}
+
+-- two vectors of equal dims that passed
+pub record Pair (d : ℕ) (a : List ℕ) (e : ℕ) (b : List ℕ) : Type 0 where
+  pub left : Sound d a
+  pub right : Sound d b
+  pub equal : d ≡ e
+
+pub pair-sound : (d : ℕ) (a : List ℕ) (e : ℕ) (b : List ℕ) → pairOf d a e b ≡ Valid → Pair d a e b
+pair-sound d a e b passed =
+    let first = next-valid (checkedOf d a) (next (checkedOf e b) (refuse (not (eqb d e)) 7 0 Valid)) passed in
+    let second = next-valid (checkedOf e b) (refuse (not (eqb d e)) 7 0 Valid) (first .1) in
+    let same : d ≡ e = go (eqb d e) refl (second .1) in
+    record { left = sound d a (first .0); right = rw same (sound e b (second .0)); equal = same }
+  where
+    go : (t : Bool) → eqb d e ≡ t → refuse (not t) 7 0 Valid ≡ Valid → d ≡ e
+    go true q r = eqb-true d e q
+    go false q r = absurd (refused-valid r)
+
+-- a vector that passed, and itself
+pub itself : (d : ℕ) (a : List ℕ) → checkedOf d a ≡ Valid → Pair d a d a
+itself d a passed = record { left = sound d a passed; right = sound d a passed; equal = refl }
+
+pub alike : {d e : ℕ} {a b : List ℕ} → Pair d a e b → Alike a b
+alike p = record { long = p .right .long ∙ sym (p .left .long); most = omega (arith, p .left .high, p .left .long) }
+
+both-clear : (op : Op) → both op false false ≡ false
+both-clear And = refl
+both-clear Or = refl
+both-clear Xor = refl
+
+module _ (op : Op) {d e : ℕ} {a b : List ℕ} (p : Pair d a e b) where
+  meets-clear : (i : ℕ) → d ≤ i → meets op a b i ≡ false
+  meets-clear i h = rw (p .left .clear i h, p .right .clear i h) (both-clear op)
+
+  -- nothing is counted in the padding
+  pub ones-dims : onesOf op a b ≡ countBelow (meets op a b) d
+  ones-dims = count-rest (meets op a b) d (64 * length a) (omega (arith, p .left .long)) (λ i h l. meets-clear i h)
+
+  cut-meets : (i : ℕ) → cut d (meets op a b) i ≡ meets op a b i
+  cut-meets i = ⊎-elim (λ h. rw (le-ltb i d h) (sym (meets-clear i h))) (λ h. rw (lt-ltb i d h)) (le-or-lt d i)
+
+  -- the words put together are those of the bits put together
+  pub joins-words : ((j : ℕ) → getD a j 0 < 2 ^ 64) → ((j : ℕ) → getD b j 0 < 2 ^ 64) → joins op a b ≡ wordsOf d (meets op a b)
+  joins-words ha hb =
+      list-same (λ j. join op (getD a j 0) (getD b j 0)) (λ j. wordFrom (cut d (meets op a b)) (64 * j) 64) (length a)
+      (λ j l.
+      word-is (cut d (meets op a b)) 64 (64 * j) (join op (getD a j 0) (getD b j 0)) (join-lt op 64 (getD a j 0) (getD b j 0) (ha j) (hb j))
+      (λ k h. sym (meets-at op a b j k h) ∙ sym (cut-meets (64 * j + k))))
+      ∙ ap (listBelow (λ j. wordFrom (cut d (meets op a b)) (64 * j) 64)) (p .left .long)
+
+-- the ones of a vector are those of it AND itself
+pub ones-self : (d : ℕ) (a : List ℕ) → countBelow (meets And a a) d ≡ countBelow (bitAt a) d
+ones-self d a = count-same (meets And a a) (bitAt a) d (λ i h. and-self (bitAt a i))

@@ -1,0 +1,58 @@
+-- An answer that is the due one says the number and place of what the tests found: one law for each kind of answer. Assumes nothing.
+use Prim.Native.Nat.{ℕ}
+use mathlib.Core.Bool.{Bool, true, false}
+use mathlib.Core.List.{List, _++_}
+use mathlib.Core.Path.{_≡_, refl, sym, ap, _∙_}
+use lib.ListN.{length, drop}
+use lib.Ieee.{Float}
+use Rattle.refusal.specs.Answers.{Says, Answers, Writes, leaves, same, checkedSays, distanceSays, distanceOf, writtenSays, writtenOf, askedSays, askedOf, orderSays, orderOf}
+use Rattle.refusal.specs.declared.Checked.{Checked}
+use Rattle.refusal.specs.declared.Checked.the-variants.{Valid, Refused}
+use Rattle.refusal.specs.declared.Distance.{Distance}
+use Rattle.refusal.specs.declared.Written.{Written}
+use Rattle.refusal.specs.declared.Written.the-variants.{Done, Refused as NotWritten}
+use Rattle.refusal.specs.declared.Asked.{Asked}
+use Rattle.refusal.specs.declared.Ordering.{Ordering}
+
+-- any kind of answer whose refusals say what they were given
+pub answered : {A : Type 0} (saysOf : A → Says) (give : Checked → A) → ((due : Checked) → saysOf (give due) ≡ checkedSays due)
+    → {due : Checked} {r : A} → r ≡ give due → Answers saysOf give due r
+answered saysOf give fair {due} e = record { told = ap saysOf e ∙ fair due; answer = e }
+
+pub checked-answer : {due r : Checked} → r ≡ due → Answers checkedSays same due r
+checked-answer e = answered checkedSays same (λ due. refl) e
+
+distance-fair : (x : Float) (due : Checked) → distanceSays (distanceOf x due) ≡ checkedSays due
+distance-fair x Valid = refl
+distance-fair x (Refused n p) = refl
+
+pub distance-answer : (x : Float) {due : Checked} {r : Distance} → r ≡ distanceOf x due → Answers distanceSays (distanceOf x) due r
+distance-answer x e = answered distanceSays (distanceOf x) (distance-fair x) e
+
+written-fair : (d len : ℕ) (due : Checked) → writtenSays (writtenOf d len due) ≡ checkedSays due
+written-fair d len Valid = refl
+written-fair d len (Refused n p) = refl
+
+pub written-answer : (d len : ℕ) {due : Checked} {r : Written} → r ≡ writtenOf d len due → Answers writtenSays (writtenOf d len) due r
+written-answer d len e = answered writtenSays (writtenOf d len) (written-fair d len) e
+
+asked-fair : (b : Bool) (due : Checked) → askedSays (askedOf b due) ≡ checkedSays due
+asked-fair true Valid = refl
+asked-fair false Valid = refl
+asked-fair b (Refused n p) = refl
+
+pub asked-answer : (b : Bool) {due : Checked} {r : Asked} → r ≡ askedOf b due → Answers askedSays (askedOf b) due r
+asked-answer b e = answered askedSays (askedOf b) (asked-fair b) e
+
+-- ---- calls that write
+
+pub refused-writes : (d : ℕ) (new : List ℕ) {due : Checked} {old : List ℕ} {n p : ℕ} → due ≡ Refused n p → Writes due d new old (NotWritten n p) old
+refused-writes d new {due} {old} e =
+    record { answer = written-answer d (length new) (ap (writtenOf d (length new)) (sym e)); output = ap (λ (c : Checked). leaves c new old) (sym e) }
+
+pub done-writes : (d : ℕ) (new : List ℕ) {due : Checked} {old left : List ℕ} {len : ℕ} → due ≡ Valid → len ≡ length new → left ≡ new ++ drop len old → Writes due d new old (Done d len) left
+done-writes d new {due} {old} {left} e size front =
+    record {
+      answer = written-answer d (length new) (ap (Done d) size ∙ ap (writtenOf d (length new)) (sym e));
+      output = front ∙ ap (λ (n : ℕ). new ++ drop n old) size ∙ ap (λ (c : Checked). leaves c new old) (sym e);
+    }
