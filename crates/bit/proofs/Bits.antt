@@ -91,7 +91,7 @@ bit-join op x y k =
 
 -- ---- counted
 
-half-lt : (w k : ℕ) → w < 2 ^ suc k → w / 2 < 2 ^ k
+pub half-lt : (w k : ℕ) → w < 2 ^ suc k → w / 2 < 2 ^ k
 half-lt w k h = let l : w < 2 ^ k * 2 = rw pow-suc at h in omega arith
 
 pub ones-count : (k w : ℕ) → w < 2 ^ k → ones w ≡ countBelow (bitOf w) k
@@ -104,6 +104,17 @@ ones-count (suc k) w h =
     omega (arith, ones-step w, low, rest, count-first (bitOf w) k)
 
 -- ---- put back into a word
+
+-- words that have the same bits
+pub word-same : (f g : ℕ → Bool) (s t n : ℕ) → ((k : ℕ) → k < n → f (s + k) ≡ g (t + k)) → wordFrom f s n ≡ wordFrom g t n
+unfolding wordFrom
+word-same f g s t zero same = refl
+word-same f g s t (suc n) same = rw (word-same f g s t n (λ k h. same k (omega arith)), same n (omega arith))
+
+pub word-clear : (f : ℕ → Bool) (s n : ℕ) → ((k : ℕ) → k < n → f (s + k) ≡ false) → wordFrom f s n ≡ 0
+unfolding wordFrom
+word-clear f s zero none = refl
+word-clear f s (suc n) none = rw (word-clear f s n (λ k h. none k (omega arith)), none n (omega arith)) (omega arith)
 
 -- the lowest bit first
 word-low : (f : ℕ → Bool) (s n : ℕ) → wordFrom f s (suc n) ≡ one (f s) + wordFrom f (suc s) n * 2

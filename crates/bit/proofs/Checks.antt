@@ -1,7 +1,7 @@
 -- What a check answers, and what is known of a vector that passed. Assumes nothing.
 use Prim.Native.Nat.{ℕ, suc, _+_, _-_, _*_, _/_, _%_, _^_, _≤_, _<_}
 use native.Mathlib.Omega.{arith}
-use mathlib.Core.Bool.{Bool, true, false, not, _||_}
+use mathlib.Core.Bool.{Bool, true, false, not, _||_, or-true}
 use mathlib.Core.List.{List}
 use mathlib.Core.Path.{_≡_, refl, sym, ap, _∙_}
 use lib.Dec.{ltb, eqb}
@@ -21,29 +21,34 @@ pub record Sound (d : ℕ) (ws : List ℕ) : Type 0 where
   pub long : length ws ≡ wordsFor d
   pub clear : (i : ℕ) → d ≤ i → bitAt ws i ≡ false
 
+pub some : (n : ℕ) → (n ≡ 0 → ⊥) → 1 ≤ n
+some n h = omega arith
+
+pub bad-zero : (d : ℕ) → d ≡ 0 → badDims d ≡ true
+bad-zero d e = rw (eq-eqb d 0 e)
+
+pub bad-high : (d : ℕ) → 65535 < d → badDims d ≡ true
+bad-high d h = rw (lt-ltb 65535 d h, or-true)
+
+pub good-dims : (d : ℕ) → 1 ≤ d → d ≤ 65535 → badDims d ≡ false
+good-dims d l h = rw (ne-eqb d 0 (λ e. omega arith), le-ltb 65535 d h)
+
 module _ (d : ℕ) (ws : List ℕ) where
-  pub refused-zero : d ≡ 0 → checkedOf d ws ≡ Refused 1 0
+  pub refused-dims : badDims d ≡ true → checkedOf d ws ≡ Refused 1 0
   unfolding checkedOf
-  refused-zero e = rw (eq-eqb d 0 e)
-
-  pub refused-high : 65535 < d → checkedOf d ws ≡ Refused 1 0
-  unfolding checkedOf
-  refused-high h = rw (ne-eqb d 0 (λ e. omega arith), lt-ltb 65535 d h)
-
-  pub good-dims : 1 ≤ d → d ≤ 65535 → badDims d ≡ false
-  good-dims l h = rw (ne-eqb d 0 (λ e. omega arith), le-ltb 65535 d h)
+  refused-dims bad = rw bad
 
   pub refused-length : 1 ≤ d → d ≤ 65535 → (length ws ≡ wordsFor d → ⊥) → checkedOf d ws ≡ Refused 2 0
   unfolding checkedOf
-  refused-length l h other = rw (good-dims l h, ne-eqb (length ws) (wordsFor d) other)
+  refused-length l h other = rw (good-dims d l h, ne-eqb (length ws) (wordsFor d) other)
 
   pub refused-padding : 1 ≤ d → d ≤ 65535 → length ws ≡ wordsFor d → padded d ws ≡ true → checkedOf d ws ≡ Refused 6 (length ws - 1)
   unfolding checkedOf
-  refused-padding l h e p = rw (good-dims l h, eq-eqb (length ws) (wordsFor d) e, p)
+  refused-padding l h e p = rw (good-dims d l h, eq-eqb (length ws) (wordsFor d) e, p)
 
   pub valid : Sound d ws → checkedOf d ws ≡ Valid
   unfolding checkedOf
-  valid s = rw (good-dims (s .low) (s .high), eq-eqb (length ws) (wordsFor d) (s .long), clear-padded d ws (record { clear = s .clear }))
+  valid s = rw (good-dims d (s .low) (s .high), eq-eqb (length ws) (wordsFor d) (s .long), clear-padded d ws (record { clear = s .clear }))
 
   pub sound : checkedOf d ws ≡ Valid → Sound d ws
   unfolding checkedOf
@@ -56,9 +61,8 @@ module _ (d : ℕ) (ws : List ℕ) where
       go false false false p ez eh el ep e = absurd (refused-valid e)
       go false false true true ez eh el ep e = absurd (refused-valid e)
       go false false true false ez eh el ep e =
-          let some : d ≡ 0 → ⊥ = eqb-false d 0 ez in
           record {
-            low = omega arith;
+            low = some d (eqb-false d 0 ez);
             high = ltb-false 65535 d eh;
             long = eqb-true (length ws) (wordsFor d) el;
             clear = padded-clear d ws ep .clear;

@@ -1,13 +1,16 @@
 -- A count that is the due one says the number and place of what the tests found. Assumes nothing.
 use Prim.Native.Nat.{ℕ}
-use mathlib.Core.Path.{_≡_, refl}
+use native.Mathlib.Omega.{arith}
+use mathlib.Core.Path.{_≡_, refl, sym, ap₂}
 use Rattle.refusal.specs.Answers.{Answers, checkedSays}
 use Rattle.refusal.specs.declared.Checked.{Checked}
 use Rattle.refusal.specs.declared.Checked.the-variants.{Valid, Refused}
 use Rattle.refusal.proofs.Told.{answered}
 use Rattle.bit.specs.Calls.{countSays, countOf, countsSays, countsOf}
 use Rattle.bit.specs.declared.Count.{Count}
+use Rattle.bit.specs.declared.Count.the-variants.{Ones, Refused as NoCount}
 use Rattle.bit.specs.declared.Counts.{Counts}
+use Rattle.bit.specs.declared.Counts.the-variants.{Ones as Both, Refused as NoCounts}
 
 count-fair : (n : ℕ) (due : Checked) → countSays (countOf n due) ≡ checkedSays due
 count-fair n Valid = refl
@@ -22,3 +25,27 @@ counts-fair m n (Refused k p) = refl
 
 pub counts-answer : (m n : ℕ) {due : Checked} {r : Counts} → r ≡ countsOf m n due → Answers countsSays (countsOf m n) due r
 counts-answer m n e = answered countsSays (countsOf m n) (counts-fair m n) e
+
+-- ---- and back: what an answer tells of the tests
+
+absurd-count : {n m p : ℕ} → Ones n ≡ NoCount m p → ⊥
+absurd-count e = let z : _≡_ {A = ℕ} 0 1 = cc in omega arith
+
+pub count-done : (m n : ℕ) (due : Checked) → countOf m due ≡ Ones n → (due ≡ Valid) × (n ≡ m)
+count-done m n Valid e = (refl, cc)
+count-done m n (Refused k p) e = absurd (absurd-count (sym e))
+
+pub count-refused : (m n p : ℕ) (due : Checked) → countOf m due ≡ NoCount n p → due ≡ Refused n p
+count-refused m n p Valid e = absurd (absurd-count e)
+count-refused m n p (Refused k q) e = ap₂ Refused (cc) (cc)
+
+absurd-counts : {l n m p : ℕ} → Both l n ≡ NoCounts m p → ⊥
+absurd-counts e = let z : _≡_ {A = ℕ} 0 1 = cc in omega arith
+
+pub counts-done : (l m k n : ℕ) (due : Checked) → countsOf l m due ≡ Both k n → (due ≡ Valid) × (k ≡ l) × (n ≡ m)
+counts-done l m k n Valid e = (refl, (cc), (cc))
+counts-done l m k n (Refused j p) e = absurd (absurd-counts (sym e))
+
+pub counts-refused : (l m n p : ℕ) (due : Checked) → countsOf l m due ≡ NoCounts n p → due ≡ Refused n p
+counts-refused l m n p Valid e = absurd (absurd-counts e)
+counts-refused l m n p (Refused k q) e = ap₂ Refused (cc) (cc)

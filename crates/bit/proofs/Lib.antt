@@ -1,5 +1,6 @@
 -- Laws of bits and words.
 pub mod Bits
+pub mod Lowest
 pub mod Vectors
 pub mod Checks
 pub mod Pairs

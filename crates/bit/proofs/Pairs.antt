@@ -10,11 +10,11 @@ use lib.ListN.{length, getD}
 use borrow.Author.Tests.{lt-ltb, le-ltb, eqb-true}
 use Rattle.places.specs.Below.{countBelow, listBelow}
 use Rattle.places.proofs.Below.{count-rest, count-same, list-same, length-below, le-or-lt}
-use Rattle.refusal.specs.Answers.{refuse, next}
+use Rattle.refusal.specs.Answers.{refuse}
 use Rattle.refusal.specs.declared.Checked.the-variants.{Valid}
 use Rattle.refusal.proofs.Chains.{refused-valid, next-valid}
 use Rattle.bit.specs.Bits.{bitOf, bitAt, both, meets, join, cut, wordFrom, wordsFor, wordsOf}
-use Rattle.bit.specs.Calls.{checkedOf, pairOf}
+use Rattle.bit.specs.Calls.{checkedOf, eachOf, pairOf}
 use Rattle.bit.specs.Words.{Alike, onesOf, joins}
 use Rattle.bit.specs.declared.Op.{Op}
 use Rattle.bit.specs.declared.Op.the-variants.{And, Or, Xor}
@@ -28,12 +28,16 @@ pub record Pair (d : ℕ) (a : List ℕ) (e : ℕ) (b : List ℕ) : Type 0 where
   pub right : Sound d b
   pub equal : d ≡ e
 
+pub each-sound : (d : ℕ) (a : List ℕ) (e : ℕ) (b : List ℕ) → eachOf d a e b ≡ Valid → Sound d a × Sound e b
+each-sound d a e b passed = let v = next-valid (checkedOf d a) (checkedOf e b) passed in (sound d a (v .0), sound e b (v .1))
+
+pub pair-of : {d e : ℕ} {a b : List ℕ} → Sound d a × Sound e b → d ≡ e → Pair d a e b
+pair-of {a = a} {b} s same = record { left = s .0; right = rw same (s .1); equal = same }
+
 pub pair-sound : (d : ℕ) (a : List ℕ) (e : ℕ) (b : List ℕ) → pairOf d a e b ≡ Valid → Pair d a e b
 pair-sound d a e b passed =
-    let first = next-valid (checkedOf d a) (next (checkedOf e b) (refuse (not (eqb d e)) 7 0 Valid)) passed in
-    let second = next-valid (checkedOf e b) (refuse (not (eqb d e)) 7 0 Valid) (first .1) in
-    let same : d ≡ e = go (eqb d e) refl (second .1) in
-    record { left = sound d a (first .0); right = rw same (sound e b (second .0)); equal = same }
+    let v = next-valid (eachOf d a e b) (refuse (not (eqb d e)) 7 0 Valid) passed in
+    pair-of (each-sound d a e b (v .0)) (go (eqb d e) refl (v .1))
   where
     go : (t : Bool) → eqb d e ≡ t → refuse (not t) 7 0 Valid ≡ Valid → d ≡ e
     go true q r = eqb-true d e q

@@ -16,7 +16,7 @@ use Rattle.places.proofs.Below.{count-add, count-same, count-most, any-false, a
 use Rattle.bit.specs.Bits.{bitOf, bitAt, both, meets, join, wordFrom, wordsFor}
 use Rattle.bit.specs.Calls.{padded}
 use Rattle.bit.specs.declared.Op.{Op}
-use Rattle.bit.proofs.Bits.{bit-above, bit-none, bit-join, join-lt, ones-count, word-is}
+use Rattle.bit.proofs.Bits.{bit-above, bit-none, bit-join, join-lt, ones-count, word-is, word-clear}
 
 -- ---- a place is a word and a bit of it
 
@@ -56,14 +56,9 @@ count-fits t j n w e h l = omega (arith, count-most t (64 * j), ones-le 64 w l)
 
 -- ---- the padding
 
-word-none : (s n : ℕ) → wordFrom (λ i. false) s n ≡ 0
-unfolding wordFrom
-word-none s zero = refl
-word-none s (suc n) = rw (word-none s n) (omega arith)
-
 -- a number below 2 ^ 64 without bits is 0
 no-bits : (w : ℕ) → w < 2 ^ 64 → ((k : ℕ) → k < 64 → bitOf w k ≡ false) → w ≡ 0
-no-bits w h none = word-is (λ i. false) 64 0 w h none ∙ word-none 0 64
+no-bits w h none = word-is (λ i. false) 64 0 w h none ∙ word-clear (λ i. false) 0 64 (λ k l. refl)
 
 bit-shr : (w r k : ℕ) → bitOf (w / 2 ^ r) k ≡ bitOf w (r + k)
 unfolding bitOf

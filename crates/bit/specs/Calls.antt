@@ -35,9 +35,13 @@ checkedOf d ws =
     (refuse (padded d ws) PADDING (length ws - 1)
     Valid))
 
--- "Left vector first (1 to 6), then right, then 7"
+-- "Left vector first (1 to 6), then right"
+abbrev pub eachOf : ℕ → List ℕ → ℕ → List ℕ → Checked
+eachOf d a e b = next (checkedOf d a) (checkedOf e b)
+
+-- "then 7"
 abbrev pub pairOf : ℕ → List ℕ → ℕ → List ℕ → Checked
-pairOf d a e b = next (checkedOf d a) (next (checkedOf e b) (refuse (not (eqb d e)) DIFFER 0 Valid))
+pairOf d a e b = next (eachOf d a e b) (refuse (not (eqb d e)) DIFFER 0 Valid)
 
 -- an output of `room` words has no room for a vector of d bits
 abbrev pub roomOf : ℕ → ℕ → Checked

@@ -10,7 +10,7 @@ ghost use lib.ListN.{length, drop};
 ghost use Rattle.places.specs.Below.{countBelow};
 ghost use Rattle.refusal.specs.Answers.{Answers, checkedSays, same};
 ghost use Rattle.bit.specs.Bits.{bitAt, wordsFor, join};
-ghost use Rattle.bit.specs.Calls.{checkedOf, pairOf, countSays, countOf, Sums, SumsBoth, Combines};
+ghost use Rattle.bit.specs.Calls.{checkedOf, eachOf, pairOf, countSays, countOf, Sums, SumsBoth, Combines};
 ghost use Rattle.bit.specs.Words.{Alike, onesOf, joins};
 
 // Two bits, or two words bit by bit, put together.
@@ -63,14 +63,21 @@ pub fn check(dims: u32, words: &[u64]) -> Checked
     Checked::Valid
 }
 
-// The first refusal of two vectors that have to have equal dims: left, right, DIFFER.
-pub fn check_pair(dims_a: u32, a: &[u64], dims_b: u32, b: &[u64]) -> Checked
-    ensures { λ r. ⌜ Answers checkedSays same (pairOf «dims_a» (now (a .entry)) «dims_b» (now (b .entry))) r ⌝ }
+// The first refusal of two vectors: left, right.
+pub fn check_each(dims_a: u32, a: &[u64], dims_b: u32, b: &[u64]) -> Checked
+    ensures { λ r. ⌜ Answers checkedSays same (eachOf «dims_a» (now (a .entry)) «dims_b» (now (b .entry))) r ⌝ }
 {
     if let Checked::Refused(number, place) = check(dims_a, a) {
         return Checked::Refused(number, place);
     }
-    if let Checked::Refused(number, place) = check(dims_b, b) {
+    check(dims_b, b)
+}
+
+// The first refusal of two vectors that have to have equal dims: left, right, DIFFER.
+pub fn check_pair(dims_a: u32, a: &[u64], dims_b: u32, b: &[u64]) -> Checked
+    ensures { λ r. ⌜ Answers checkedSays same (pairOf «dims_a» (now (a .entry)) «dims_b» (now (b .entry))) r ⌝ }
+{
+    if let Checked::Refused(number, place) = check_each(dims_a, a, dims_b, b) {
         return Checked::Refused(number, place);
     }
     if dims_a != dims_b {

@@ -16,7 +16,7 @@ use Rattle.refusal.specs.declared.Distance.{Distance}
 use Rattle.refusal.specs.declared.Ordering.{Ordering}
 use Rattle.refusal.specs.declared.Ordering.the-variants.{Unordered}
 use Rattle.bit.specs.Bits.{bitAt, wordsFor, wordsOf}
-use Rattle.bit.specs.Calls.{badDims, checkedOf, pairOf, roomOf}
+use Rattle.bit.specs.Calls.{badDims, checkedOf, eachOf, pairOf, roomOf}
 use Rattle.bvect.specs.Orders.{sameWords, orderBelow}
 use Rattle.bvect.specs.Distances.{dotOf, hammingOf, jaccardOf}
 
@@ -47,9 +47,9 @@ Cuts d ws from to old r left =
 
 -- "Equality: dims and all words."
 abbrev pub Equals : ℕ → List ℕ → ℕ → List ℕ → Asked → Type 0
-Equals d a e b r = Answers askedSays (askedOf (eqb d e && sameWords a b)) (next (checkedOf d a) (checkedOf e b)) r
+Equals d a e b r = Answers askedSays (askedOf (eqb d e && sameWords a b)) (eachOf d a e b) r
 
 -- "Bit order: dims differ, no order. Otherwise the position of the lowest differing bit decides"
 abbrev pub Compares : ℕ → List ℕ → ℕ → List ℕ → Ordering → Type 0
 Compares d a e b r =
-    Answers orderSays (orderOf (cond (eqb d e) (orderBelow (bitAt a) (bitAt b) d) Unordered)) (next (checkedOf d a) (checkedOf e b)) r
+    Answers orderSays (orderOf (cond (eqb d e) (orderBelow (bitAt a) (bitAt b) d) Unordered)) (eachOf d a e b) r

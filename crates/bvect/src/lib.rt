@@ -10,13 +10,14 @@ use refusal::Span;
 use refusal::Written;
 ghost use mathlib.Core.Path.{_≡_};
 ghost use mathlib.Core.List.{_++_};
-ghost use Prim.Native.Nat.{_≤_, _<_, _*_, _+_};
+ghost use Prim.Native.Nat.{_≤_, _<_, _*_, _+_, _^_};
 ghost use lib.ListN.{length, drop};
-ghost use Rattle.places.specs.Below.{listBelow};
+ghost use Rattle.places.specs.Below.{one, listBelow};
 ghost use Rattle.refusal.specs.Answers.{Answers, checkedSays, same};
 ghost use Rattle.bit.specs.Bits.{bitAt, cut, wordFrom};
 ghost use Rattle.bit.specs.Calls.{checkedOf, Combines};
 ghost use Rattle.bit.specs.Words.{Alike};
+ghost use Rattle.bit.specs.declared.Op.the-variants.{And, Or, Xor};
 ghost use Rattle.bvect.specs.Calls.{Zeroes, Gets, Dots, Hammings, Jaccards, Cuts, Equals, Compares};
 ghost use Rattle.bvect.specs.Orders.{wordOrder, sameWords, wordsOrder, Gathers};
 
@@ -115,21 +116,43 @@ pub fn operator_jaccard(dims_a: u32, a: &[u64], dims_b: u32, b: &[u64]) -> Dista
 // Writes a AND b to the front of `out`, and answers its dims and words. Refuses as `bit::check_pair`
 // does, and then with ROOM. So do the next two.
 pub fn operator_and(dims_a: u32, a: &[u64], dims_b: u32, b: &[u64], out: &mut [u64]) -> Written
-    ensures { λ r. ⌜ Combines Op.And «dims_a» (now (a .entry)) «dims_b» (now (b .entry)) (now (out .entry)) r (now (out .exit)) ⌝ }
+    ensures { λ r. ⌜ Combines And «dims_a» (now (a .entry)) «dims_b» (now (b .entry)) (now (out .entry)) r (now (out .exit)) ⌝ }
 {
     bit::vector_and(dims_a, a, dims_b, b, out)
 }
 
 pub fn operator_or(dims_a: u32, a: &[u64], dims_b: u32, b: &[u64], out: &mut [u64]) -> Written
-    ensures { λ r. ⌜ Combines Op.Or «dims_a» (now (a .entry)) «dims_b» (now (b .entry)) (now (out .entry)) r (now (out .exit)) ⌝ }
+    ensures { λ r. ⌜ Combines Or «dims_a» (now (a .entry)) «dims_b» (now (b .entry)) (now (out .entry)) r (now (out .exit)) ⌝ }
 {
     bit::vector_or(dims_a, a, dims_b, b, out)
 }
 
 pub fn operator_xor(dims_a: u32, a: &[u64], dims_b: u32, b: &[u64], out: &mut [u64]) -> Written
-    ensures { λ r. ⌜ Combines Op.Xor «dims_a» (now (a .entry)) «dims_b» (now (b .entry)) (now (out .entry)) r (now (out .exit)) ⌝ }
+    ensures { λ r. ⌜ Combines Xor «dims_a» (now (a .entry)) «dims_b» (now (b .entry)) (now (out .entry)) r (now (out .exit)) ⌝ }
 {
     bit::vector_xor(dims_a, a, dims_b, b, out)
+}
+
+// The bit at place `i`, and a clear one at and above `end`.
+fn bit_before(words: &[u64], i: usize, end: usize) -> bool
+    requires { ⌜ end ≤ 64 * length (now words) ⌝ }
+    ensures { λ r. ⌜ r ≡ cut end (bitAt (now (words .entry))) i ⌝ }
+{
+    if i < end {
+        return bit_at(words, i);
+    }
+    false
+}
+
+// A word of k bits with bit k on top of them.
+fn with_bit(word: u64, k: usize, set: bool) -> u64
+    requires { ⌜ (word < 2 ^ k) × (k < 64) ⌝ }
+    ensures { λ r. ⌜ r ≡ word + one set * 2 ^ k ⌝ }
+{
+    if set {
+        return word | (1 << k);
+    }
+    word
 }
 
 // The word of the 64 bits from place `from` on, of which those at and above `end` are clear.
@@ -140,12 +163,7 @@ fn gather(words: &[u64], from: usize, end: usize) -> u64
     let mut word: u64 = 0;
     let mut k: usize = 0;
     while k < 64 {
-        let i = from + k;
-        if i < end {
-            if bit_at(words, i) {
-                word = word | (1 << k);
-            }
-        }
+        word = with_bit(word, k, bit_before(words, from + k, end));
         k += 1;
     }
     word
@@ -204,10 +222,7 @@ fn same_words(a: &[u64], b: &[u64]) -> bool
 pub fn eq(dims_a: u32, a: &[u64], dims_b: u32, b: &[u64]) -> Asked
     ensures { λ r. ⌜ Equals «dims_a» (now (a .entry)) «dims_b» (now (b .entry)) r ⌝ }
 {
-    if let Checked::Refused(number, place) = bit::check(dims_a, a) {
-        return Asked::Refused(number, place);
-    }
-    if let Checked::Refused(number, place) = bit::check(dims_b, b) {
+    if let Checked::Refused(number, place) = bit::check_each(dims_a, a, dims_b, b) {
         return Asked::Refused(number, place);
     }
     if dims_a != dims_b {
@@ -253,10 +268,7 @@ fn compare_all(a: &[u64], b: &[u64]) -> Ordering
 pub fn partial_cmp(dims_a: u32, a: &[u64], dims_b: u32, b: &[u64]) -> Ordering
     ensures { λ r. ⌜ Compares «dims_a» (now (a .entry)) «dims_b» (now (b .entry)) r ⌝ }
 {
-    if let Checked::Refused(number, place) = bit::check(dims_a, a) {
-        return Ordering::Refused(number, place);
-    }
-    if let Checked::Refused(number, place) = bit::check(dims_b, b) {
+    if let Checked::Refused(number, place) = bit::check_each(dims_a, a, dims_b, b) {
         return Ordering::Refused(number, place);
     }
     if dims_a != dims_b {

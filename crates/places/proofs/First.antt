@@ -2,7 +2,7 @@
 use Prim.Native.Nat.{ℕ, zero, suc, _+_, _≤_, _<_}
 use native.Mathlib.Nat.{eq-or-lt-of-le}
 use native.Mathlib.Omega.{arith}
-use mathlib.Core.Bool.{Bool, true, false}
+use mathlib.Core.Bool.{Bool, true, false, cond}
 use mathlib.Core.Logic.{⊎-elim}
 use mathlib.Core.Path.{_≡_, refl, sym, ap, _∙_}
 use Rattle.places.specs.Search.{firstFrom}
@@ -35,3 +35,22 @@ before t (suc m) j k le lt = go (t j) refl (before t m (suc j) k)
     go false e rest =
         let l : k < firstFrom t m (suc j) = rw e at lt in
         ⊎-elim (λ q. rw (← q) e) (λ q. rest q l) (eq-or-lt-of-le le)
+
+-- the search ends at or before the end, and where it ends before it the test holds
+pub most : (t : ℕ → Bool) (m j : ℕ) → firstFrom t m j ≤ j + m
+unfolding firstFrom
+most t zero j = omega arith
+most t (suc m) j = go (t j) (most t m (suc j))
+  where
+    go : (b : Bool) → firstFrom t m (suc j) ≤ suc j + m → cond b j (firstFrom t m (suc j)) ≤ j + suc m
+    go true h = omega arith
+    go false h = omega arith
+
+pub hit : (t : ℕ → Bool) (m j : ℕ) → firstFrom t m j < j + m → t (firstFrom t m j) ≡ true
+unfolding firstFrom
+hit t zero j h = absurd (omega arith)
+hit t (suc m) j h = go (t j) refl h (hit t m (suc j))
+  where
+    go : (b : Bool) → t j ≡ b → cond b j (firstFrom t m (suc j)) < j + suc m → (firstFrom t m (suc j) < suc j + m → t (firstFrom t m (suc j)) ≡ true) → t (cond b j (firstFrom t m (suc j))) ≡ true
+    go true e l rest = e
+    go false e l rest = rest (omega arith)

@@ -5,7 +5,7 @@ use mathlib.Core.List.{List, _++_}
 use mathlib.Core.Path.{_≡_, refl, sym, ap, _∙_}
 use lib.ListN.{length, drop}
 use lib.Ieee.{Float}
-use Rattle.refusal.specs.Answers.{Says, Answers, Writes, leaves, same, checkedSays, distanceSays, distanceOf, writtenSays, writtenOf, askedSays, askedOf, orderSays, orderOf}
+use Rattle.refusal.specs.Answers.{Says, says, Answers, Writes, leaves, same, checkedSays, distanceSays, distanceOf, writtenSays, writtenOf, askedSays, askedOf, orderSays, orderOf}
 use Rattle.refusal.specs.declared.Checked.{Checked}
 use Rattle.refusal.specs.declared.Checked.the-variants.{Valid, Refused}
 use Rattle.refusal.specs.declared.Distance.{Distance}
@@ -43,6 +43,14 @@ asked-fair b (Refused n p) = refl
 
 pub asked-answer : (b : Bool) {due : Checked} {r : Asked} → r ≡ askedOf b due → Answers askedSays (askedOf b) due r
 asked-answer b e = answered askedSays (askedOf b) (asked-fair b) e
+
+order-fair : (o : Ordering) → orderSays o ≡ says 0 0 → (due : Checked) → orderSays (orderOf o due) ≡ checkedSays due
+order-fair o done Valid = done
+order-fair o done (Refused n p) = refl
+
+-- an order that is no refusal itself
+pub order-answer : (o : Ordering) → orderSays o ≡ says 0 0 → {due : Checked} {r : Ordering} → r ≡ orderOf o due → Answers orderSays (orderOf o) due r
+order-answer o done e = answered orderSays (orderOf o) (order-fair o done) e
 
 -- ---- calls that write
 

@@ -76,8 +76,7 @@ writtenOf d len Valid = Done d len
 writtenOf d len (Refused n p) = NotWritten n p
 
 abbrev pub askedOf : Bool → Checked → Asked
-askedOf true Valid = Yes
-askedOf false Valid = No
+askedOf b Valid = cond b Yes No
 askedOf b (Refused n p) = NotAsked n p
 
 abbrev pub orderOf : Ordering → Checked → Ordering

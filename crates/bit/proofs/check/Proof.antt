@@ -4,27 +4,24 @@ use mathlib.Core.Path.{_≡_, sym, _∙_}
 use native.Mathlib.Omega.{arith}
 use lib.ListN.{length}
 use Rattle.refusal.proofs.Told.{checked-answer}
-use Rattle.bit.proofs.Checks.{refused-zero, refused-high, refused-length, last-refused, last-valid}
+use Rattle.bit.proofs.Checks.{some, bad-zero, bad-high, refused-dims, refused-length, last-refused, last-valid}
 use Rattle.bit.proofs.check.Statement.{statement}
 use Rattle.bit.proofs.check.Tie as tie
 use Rattle.bit.proofs.check.Reads as reads
 use Rattle.bit.proofs.check.Lts as lts
 use Rattle.bit.proofs.words_for.Reads as words-for-reads
 
-low-dims : (n : ℕ) → (n ≡ 0 → ⊥) → 1 ≤ n
-low-dims n h = omega arith
-
 -- src/lib.rt:47:9
 returns : tie.Need-returns
 returns c =
     let a = c .before .before .args in
-    checked-answer (sym (refused-zero (a .dims) (a .words .now) (c .if1 .taken)))
+    checked-answer (sym (refused-dims (a .dims) (a .words .now) (bad-zero (a .dims) (c .if1 .taken))))
 
 -- src/lib.rt:50:9
 returns-2 : tie.Need-returns-2
 returns-2 c =
     let a = c .before .before .before .args in
-    checked-answer (sym (refused-high (a .dims) (a .words .now) (c .if2 .taken)))
+    checked-answer (sym (refused-dims (a .dims) (a .words .now) (bad-high (a .dims) (c .if2 .taken))))
 
 -- src/lib.rt:52:23
 words-for-requires : tie.Need-words-for-requires
@@ -34,7 +31,7 @@ words-for-requires c κs = search needs
 returns-3 : tie.Need-returns-3
 returns-3 c =
     let a = c .before .before .before .before .before .args in
-    checked-answer (sym (refused-length (a .dims) (a .words .now) (low-dims (a .dims) (c .before .before .before .if1 .left)) (omega arith) (λ e. c .if3 .taken (e ∙ sym (c .before .words-for .ensures)))))
+    checked-answer (sym (refused-length (a .dims) (a .words .now) (some (a .dims) (c .before .before .before .if1 .left)) (omega arith) (λ e. c .if3 .taken (e ∙ sym (c .before .words-for .ensures)))))
 
 -- src/lib.rt:55:16
 sub-last : tie.Need-sub-last
@@ -60,19 +57,19 @@ shr-if5 c = search needs
 returns-4 : tie.Need-returns-4
 returns-4 c =
     let a = c .before .before .before .before .before .before .before .before .args in
-    checked-answer (sym (last-refused (a .dims) (a .words .now) (low-dims (a .dims) (c .before .before .before .before .before .before .if1 .left)) (omega arith) (c .before .before .before .if3 .left ∙ c .before .before .before .before .words-for .ensures) (c .before .shared-slice-known2 .given (length (a .words .now) - 1) .fits) (low-dims (a .dims % 64) (c .before .before .if4 .taken)) (c .if5 .taken)))
+    checked-answer (sym (last-refused (a .dims) (a .words .now) (some (a .dims) (c .before .before .before .before .before .before .if1 .left)) (omega arith) (c .before .before .before .if3 .left ∙ c .before .before .before .before .words-for .ensures) (c .before .shared-slice-known2 .given (length (a .words .now) - 1) .fits) (some (a .dims % 64) (c .before .before .if4 .taken)) (c .if5 .taken)))
 
 -- src/lib.rt:43:1
 returns-5 : tie.Need-returns-5
 returns-5 c =
     let a = c .before .before .before .before .before .before .before .before .args in
-    checked-answer (sym (last-valid (a .dims) (a .words .now) (low-dims (a .dims) (c .before .before .before .before .before .before .if1 .left)) (omega arith) (c .before .before .before .if3 .left ∙ c .before .before .before .before .words-for .ensures) (λ p. c .if5 .left)))
+    checked-answer (sym (last-valid (a .dims) (a .words .now) (some (a .dims) (c .before .before .before .before .before .before .if1 .left)) (omega arith) (c .before .before .before .if3 .left ∙ c .before .before .before .before .words-for .ensures) (λ p. c .if5 .left)))
 
 -- src/lib.rt:43:1
 returns-6 : tie.Need-returns-6
 returns-6 c =
     let a = c .before .before .before .before .before .before .args in
-    checked-answer (sym (last-valid (a .dims) (a .words .now) (low-dims (a .dims) (c .before .before .before .before .if1 .left)) (omega arith) (c .before .if3 .left ∙ c .before .before .words-for .ensures) (λ p. absurd (omega arith))))
+    checked-answer (sym (last-valid (a .dims) (a .words .now) (some (a .dims) (c .before .before .before .before .if1 .left)) (omega arith) (c .before .if3 .left ∙ c .before .before .words-for .ensures) (λ p. absurd (omega arith))))
 
 pub check-spec : {M : Type 1} → statement M
 check-spec =

@@ -1,0 +1,4 @@
+-- Laws of bit vectors: slices, order and distances.
+pub mod Slices
+pub mod Orders
+pub mod Counts

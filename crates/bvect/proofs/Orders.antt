@@ -1,0 +1,137 @@
+-- The lowest place at which two vectors differ is in the first word that does. Assumes nothing.
+use Prim.Native.Nat.{ℕ, _+_, _-_, _*_, _/_, _%_, _^_, _≤_, _<_}
+use native.Mathlib.Nat.{eq-or-lt-of-le}
+use native.Mathlib.Omega.{arith}
+use mathlib.Core.Bool.{Bool, true, false, cond, not, Bool·beq}
+use mathlib.Core.List.{List}
+use mathlib.Core.Logic.{_⊎_, inl, inr, ⊎-elim}
+use mathlib.Core.Path.{_≡_, refl, sym, ap, _∙_}
+use lib.Bits.{bitXor, xor-lt}
+use lib.Count.{trailingZeros}
+use lib.Dec.{eqb}
+use lib.ListN.{length, getD}
+use borrow.Author.Tests.{eq-eqb, ne-eqb}
+use Rattle.places.specs.Search.{firstFrom}
+use Rattle.places.proofs.First.{found, none, before, most, hit}
+use Rattle.places.proofs.Below.{le-or-lt}
+use Rattle.refusal.specs.Answers.{says, orderSays, orderOf}
+use Rattle.refusal.proofs.Told.{order-answer}
+use Rattle.refusal.specs.declared.Ordering.{Ordering}
+use Rattle.refusal.specs.declared.Ordering.the-variants.{Less, Equal, Greater, Unordered}
+use Rattle.bit.specs.Bits.{bitOf, bitAt, both}
+use Rattle.bit.specs.declared.Op.the-variants.{Xor}
+use Rattle.bit.specs.Calls.{eachOf}
+use Rattle.bit.proofs.Bits.{bit-join}
+use Rattle.bit.proofs.Lowest.{Lowest, trailing-lowest, xor-some}
+use Rattle.bit.proofs.Pairs.{Pair}
+use Rattle.bit.proofs.Vectors.{bit-at}
+use Rattle.bvect.specs.Calls.{Compares}
+use Rattle.bvect.specs.Orders.{lowest, decided, orderBelow, wordOrder, wordsOrder}
+
+same-bits : (b : Bool) → both Xor b b ≡ false
+same-bits true = refl
+same-bits false = refl
+
+module _ (f g : ℕ → Bool) where
+  abbrev differs : ℕ → Bool
+  differs i = both Xor (f i) (g i)
+
+  -- a lowest differing place decides
+  pub order-at : (n i : ℕ) → i < n → differs i ≡ true → ((k : ℕ) → k < i → differs k ≡ false) → orderBelow f g n ≡ cond (f i) Greater Less
+  order-at n i h e all =
+      let l : lowest f g n ≡ i = found differs n 0 i (λ k a b. all k b) e (omega arith) (omega arith) in
+      rw (l, ne-eqb i n (λ q. omega arith))
+
+  -- without one they are equal
+  pub order-none : (n : ℕ) → ((k : ℕ) → k < n → differs k ≡ false) → orderBelow f g n ≡ Equal
+  order-none n all =
+      let l : lowest f g n ≡ n = none differs n 0 (λ k a b. all k (omega arith)) ∙ omega arith in
+      rw (l, eq-eqb n n refl)
+
+  -- places that do not differ may be added
+  pub order-rest : (d m : ℕ) → d ≤ m → ((k : ℕ) → d ≤ k → k < m → differs k ≡ false) → orderBelow f g m ≡ orderBelow f g d
+  order-rest d m le rest = ⊎-elim all some (eq-or-lt-of-le (let h = most differs d 0 in omega arith))
+    where
+      earlier : (k : ℕ) → k < lowest f g d → differs k ≡ false
+      earlier k l = before differs d 0 k (omega arith) l
+
+      all : lowest f g d ≡ d → orderBelow f g m ≡ orderBelow f g d
+      all e =
+          order-none m (λ k l. ⊎-elim (λ h. rest k h l) (λ h. earlier k (omega arith)) (le-or-lt d k))
+          ∙ sym (order-none d (λ k l. earlier k (omega arith)))
+
+      some : lowest f g d < d → orderBelow f g m ≡ orderBelow f g d
+      some l =
+          let e : differs (lowest f g d) ≡ true = hit differs d 0 (omega arith) in
+          order-at m (lowest f g d) (omega arith) e earlier ∙ sym (order-at d (lowest f g d) l e earlier)
+
+-- no order is a refusal
+compare-fair : (same : Bool) (f g : ℕ → Bool) (n : ℕ) → orderSays (cond same (orderBelow f g n) Unordered) ≡ says 0 0
+compare-fair false f g n = refl
+compare-fair true f g n = go (eqb (lowest f g n) n) (f (lowest f g n))
+  where
+    go : (none one : Bool) → orderSays (cond none Equal (cond one Greater Less)) ≡ says 0 0
+    go true one = refl
+    go false true = refl
+    go false false = refl
+
+-- ---- by words
+
+-- a place in words that are equal does not differ
+same-word : (a b : List ℕ) (k : ℕ) → getD a (k / 64) 0 ≡ getD b (k / 64) 0 → differs (bitAt a) (bitAt b) k ≡ false
+unfolding bitAt
+same-word a b k e = rw e (same-bits (bitOf (getD b (k / 64) 0) (k % 64)))
+
+pub words-equal : (a b : List ℕ) → ((j : ℕ) → j < length a → getD a j 0 ≡ getD b j 0) → wordsOrder a b ≡ Equal
+words-equal a b same = order-none (bitAt a) (bitAt b) (64 * length a) (λ k l. same-word a b k (same (k / 64) (omega arith)))
+
+module _ (x y : ℕ) (hx : x < 2 ^ 64) (hy : y < 2 ^ 64) (other : x ≡ y → ⊥) where
+  pub first-lowest : Lowest 64 (bitXor x y) (trailingZeros 64 (bitXor x y))
+  first-lowest = trailing-lowest 64 (bitXor x y) (xor-some x y hx hy other) (xor-lt 64 x y hx hy)
+
+  first-differs : differs (bitOf x) (bitOf y) (trailingZeros 64 (bitXor x y)) ≡ true
+  first-differs = sym (bit-join Xor x y (trailingZeros 64 (bitXor x y))) ∙ first-lowest .set
+
+  none-before : (k : ℕ) → k < trailingZeros 64 (bitXor x y) → differs (bitOf x) (bitOf y) k ≡ false
+  none-before k l = sym (bit-join Xor x y k) ∙ first-lowest .below k l
+
+  -- of two words the side with the one at their lowest differing bit is Greater
+  pub word-decides : wordOrder x y ≡ cond (bitOf x (trailingZeros 64 (bitXor x y))) Greater Less
+  word-decides = order-at (bitOf x) (bitOf y) 64 (trailingZeros 64 (bitXor x y)) (first-lowest .inside) first-differs none-before
+
+-- the first words that differ compare as the vectors do
+module _ (a b : List ℕ) (i : ℕ) (hx : getD a i 0 < 2 ^ 64) (hy : getD b i 0 < 2 ^ 64) (other : getD a i 0 ≡ getD b i 0 → ⊥) where
+  abbrev lowestBit : ℕ
+  lowestBit = trailingZeros 64 (bitXor (getD a i 0) (getD b i 0))
+
+  low-bit : Lowest 64 (bitXor (getD a i 0) (getD b i 0)) lowestBit
+  low-bit = first-lowest (getD a i 0) (getD b i 0) hx hy other
+
+  in-word : (k : ℕ) → k < 64 → differs (bitAt a) (bitAt b) (64 * i + k) ≡ differs (bitOf (getD a i 0)) (bitOf (getD b i 0)) k
+  in-word k l = rw (bit-at a i k l, bit-at b i k l)
+
+  earlier-bits : ((j : ℕ) → j < i → getD a j 0 ≡ getD b j 0) → (k : ℕ) → k < 64 * i + lowestBit → differs (bitAt a) (bitAt b) k ≡ false
+  earlier-bits same k l =
+      ⊎-elim
+      (λ past.
+      ap (differs (bitAt a) (bitAt b)) (let e : k ≡ 64 * i + (k - 64 * i) = omega arith in e)
+      ∙ in-word (k - 64 * i) (omega (arith, low-bit .inside))
+      ∙ none-before (getD a i 0) (getD b i 0) hx hy other (k - 64 * i) (omega arith))
+      (λ inside. same-word a b k (same (k / 64) (omega arith)))
+      (le-or-lt (64 * i) k)
+
+  pub words-decide : i < length a → ((j : ℕ) → j < i → getD a j 0 ≡ getD b j 0) → wordsOrder a b ≡ wordOrder (getD a i 0) (getD b i 0)
+  words-decide h same =
+      order-at (bitAt a) (bitAt b) (64 * length a) (64 * i + lowestBit) (omega (arith, low-bit .inside))
+      (in-word lowestBit (low-bit .inside) ∙ first-differs (getD a i 0) (getD b i 0) hx hy other)
+      (earlier-bits same)
+      ∙ ap (λ (s : Bool). cond s Greater Less) (bit-at a i lowestBit (low-bit .inside))
+      ∙ sym (word-decides (getD a i 0) (getD b i 0) hx hy other)
+
+-- the padding decides nothing
+pub order-dims : {d e : ℕ} {a b : List ℕ} → Pair d a e b → orderBelow (bitAt a) (bitAt b) d ≡ wordsOrder a b
+order-dims {d} {a = a} {b} p =
+    sym (order-rest (bitAt a) (bitAt b) d (64 * length a) (omega (arith, p .left .long)) (λ k h l. rw (p .left .clear k h, p .right .clear k h)))
+
+pub compares : (d : ℕ) (a : List ℕ) (e : ℕ) (b : List ℕ) {r : Ordering} → r ≡ orderOf (cond (eqb d e) (orderBelow (bitAt a) (bitAt b) d) Unordered) (eachOf d a e b) → Compares d a e b r
+compares d a e b q = order-answer (cond (eqb d e) (orderBelow (bitAt a) (bitAt b) d) Unordered) (compare-fair (eqb d e) (bitAt a) (bitAt b) d) q
