@@ -5,3 +5,4 @@ pub mod Vectors
 pub mod Checks
 pub mod Pairs
 pub mod Counted
+pub mod Meaning

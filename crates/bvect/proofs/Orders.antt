@@ -2,7 +2,7 @@
 use Prim.Native.Nat.{ℕ, _+_, _-_, _*_, _/_, _%_, _^_, _≤_, _<_}
 use native.Mathlib.Nat.{eq-or-lt-of-le}
 use native.Mathlib.Omega.{arith}
-use mathlib.Core.Bool.{Bool, true, false, cond, not, Bool·beq}
+use mathlib.Core.Bool.{Bool, true, false, false≢true, cond, not, Bool·beq}
 use mathlib.Core.List.{List}
 use mathlib.Core.Logic.{_⊎_, inl, inr, ⊎-elim}
 use mathlib.Core.Path.{_≡_, refl, sym, ap, _∙_}
@@ -10,7 +10,7 @@ use lib.Bits.{bitXor, xor-lt}
 use lib.Count.{trailingZeros}
 use lib.Dec.{eqb}
 use lib.ListN.{length, getD}
-use borrow.Author.Tests.{eq-eqb, ne-eqb}
+use borrow.Author.Tests.{eq-eqb, ne-eqb, eqb-true}
 use Rattle.places.specs.Search.{firstFrom}
 use Rattle.places.proofs.First.{found, none, before, most, hit}
 use Rattle.places.proofs.Below.{le-or-lt}
@@ -96,8 +96,24 @@ module _ (x y : ℕ) (hx : x < 2 ^ 64) (hy : y < 2 ^ 64) (other : x ≡ y → �
   none-before k l = sym (bit-join Xor x y k) ∙ first-lowest .below k l
 
   -- of two words the side with the one at their lowest differing bit is Greater
-  pub word-decides : wordOrder x y ≡ cond (bitOf x (trailingZeros 64 (bitXor x y))) Greater Less
+  word-decides : wordOrder x y ≡ cond (bitOf x (trailingZeros 64 (bitXor x y))) Greater Less
   word-decides = order-at (bitOf x) (bitOf y) 64 (trailingZeros 64 (bitXor x y)) (first-lowest .inside) first-differs none-before
+
+  -- so the one's digit there is above the other's
+  pub word-greater : y / 2 ^ trailingZeros 64 (bitXor x y) % 2 < x / 2 ^ trailingZeros 64 (bitXor x y) % 2 → wordOrder x y ≡ Greater
+  unfolding bitOf
+  word-greater h = rw (word-decides, eq-eqb (x / 2 ^ trailingZeros 64 (bitXor x y) % 2) 1 (omega arith))
+
+  pub word-less : x / 2 ^ trailingZeros 64 (bitXor x y) % 2 ≤ y / 2 ^ trailingZeros 64 (bitXor x y) % 2 → wordOrder x y ≡ Less
+  unfolding bitOf
+  word-less h = go (bitOf x (trailingZeros 64 (bitXor x y))) refl first-differs
+    where
+      go : (b : Bool) → bitOf x (trailingZeros 64 (bitXor x y)) ≡ b → both Xor b (bitOf y (trailingZeros 64 (bitXor x y))) ≡ true → wordOrder x y ≡ Less
+      go false e q = rw (word-decides, e)
+      go true e q =
+          let one : x / 2 ^ trailingZeros 64 (bitXor x y) % 2 ≡ 1 = eqb-true (x / 2 ^ trailingZeros 64 (bitXor x y) % 2) 1 e in
+          let same : bitOf y (trailingZeros 64 (bitXor x y)) ≡ true = eq-eqb (y / 2 ^ trailingZeros 64 (bitXor x y) % 2) 1 (omega arith) in
+          absurd (false≢true (rw same at q))
 
 -- the first words that differ compare as the vectors do
 module _ (a b : List ℕ) (i : ℕ) (hx : getD a i 0 < 2 ^ 64) (hy : getD b i 0 < 2 ^ 64) (other : getD a i 0 ≡ getD b i 0 → ⊥) where

@@ -108,7 +108,11 @@ pub fn operator_jaccard(dims_a: u32, a: &[u64], dims_b: u32, b: &[u64]) -> Dista
     ensures { λ r. ⌜ Jaccards «dims_a» (now (a .entry)) «dims_b» (now (b .entry)) r ⌝ }
 {
     match bit::sum_of_and_or(dims_a, a, dims_b, b) {
-        bit::Counts::Ones(and, or) => Distance::Value(1.0 - (and as f32 / or as f32)),
+        bit::Counts::Ones(and, or) => {
+            let common = and as f32;
+            let all = or as f32;
+            Distance::Value(1.0 - common / all)
+        }
         bit::Counts::Refused(number, place) => Distance::Refused(number, place),
     }
 }
@@ -234,13 +238,15 @@ pub fn eq(dims_a: u32, a: &[u64], dims_b: u32, b: &[u64]) -> Asked
     Asked::No
 }
 
-// How two words that differ compare: the lowest differing bit decides.
+// How two words that differ compare: at their lowest differing bit the side with the one is Greater.
 fn compare_words(x: u64, y: u64) -> Ordering
     requires { ⌜ (x ≡ y → ⊥) ⌝ }
     ensures { λ r. ⌜ r ≡ wordOrder x y ⌝ }
 {
     let k = u64::trailing_zeros(x ^ y);
-    if (x >> k) % 2 == 1 {
+    let left = (x >> k) % 2;
+    let right = (y >> k) % 2;
+    if right < left {
         return Ordering::Greater;
     }
     Ordering::Less

@@ -2,3 +2,4 @@
 pub mod Spans
 pub mod Chains
 pub mod Told
+pub mod Only

@@ -1,17 +1,16 @@
+-- `bit::combine` meets its contract. The loop's invariant: the first i words are put together in front of what is left of the old output.
+-- The measure is the number of words left. Assumes nothing.
 use borrow.Author.Needs.{needs}
 use native.Mathlib.Omega.{arith}
-use Prim.Native.Nat.{ℕ, _+_, _-_, _*_, _≤_, _<_}
-use mathlib.Core.Path.{_≡_, refl, sym, ap, _∙_}
-use lib.ListN.{length, getD, drop}
+use Prim.Native.Nat.{_+_, _-_, _≤_}
+use mathlib.Core.Path.{_≡_, ap, _∙_}
 use mathlib.Core.List.{_++_}
+use lib.ListN.{length, getD, drop}
 use Rattle.places.specs.Below.{listBelow}
 use Rattle.places.proofs.Below.{store, written-length}
 use Rattle.bit.specs.Bits.{join}
 use Rattle.bit.proofs.combine.Statement.{statement}
 use Rattle.bit.proofs.combine.Tie as tie
-use Rattle.bit.proofs.combine.Reads as reads
-use Rattle.bit.proofs.combine.Lts as lts
-use Rattle.bit.proofs.joined.Reads as joined-reads
 
 abbrev Inv-loop : tie.InvT-loop
 Inv-loop op a b out₀ i₀ out i = (i ≤ length a) × (out ≡ listBelow (λ j. join op (getD a j 0) (getD b j 0)) i ++ drop i out₀)
@@ -19,64 +18,51 @@ Inv-loop op a b out₀ i₀ out i = (i ≤ length a) × (out ≡ listBelow (λ j
 abbrev μ-loop : tie.MeasureT-loop
 μ-loop op a b out₀ i₀ out i = length a - i
 
--- src/lib.rt:138:5
 loop-holds : tie.Need-loop-holds Inv-loop μ-loop
 unfolding listBelow
 loop-holds c = search needs
 
--- src/lib.rt:139:29
 mul-joined : tie.Need-mul-joined Inv-loop μ-loop
 mul-joined c = search needs
 
--- src/lib.rt:139:29
 shared-slice-read-joined : tie.Need-shared-slice-read-joined Inv-loop μ-loop
 shared-slice-read-joined c = search needs
 
--- src/lib.rt:139:35
 mul-joined-2 : tie.Need-mul-joined-2 Inv-loop μ-loop
 mul-joined-2 c = search needs
 
--- src/lib.rt:139:35
 shared-slice-read-joined-2 : tie.Need-shared-slice-read-joined-2 Inv-loop μ-loop
 shared-slice-read-joined-2 c = search needs
 
--- src/lib.rt:139:18
 joined-requires : tie.Need-joined-requires Inv-loop μ-loop
 joined-requires c κs = search needs
 
--- src/lib.rt:139:9
 mul-out : tie.Need-mul-out Inv-loop μ-loop
 mul-out c = search needs
 
--- src/lib.rt:139:9
 slice-write-out : tie.Need-slice-write-out Inv-loop μ-loop
 slice-write-out c =
     let a = c .before .before .before .before .before .before .before .before .args in
     let l = c .before .before .before .before .loop in
     omega (arith, written-length (λ j. join (a .op) (getD (a .a .now) j 0) (getD (a .b .now) j 0)) (l .i) (a .out .now) (omega arith), ap length (l .inv .1))
 
--- src/lib.rt:140:9
 add-i : tie.Need-add-i Inv-loop μ-loop
 add-i c = search needs
 
--- src/lib.rt:138:5
 loop-less : tie.Need-loop-less Inv-loop μ-loop
 loop-less c = search needs
 
--- src/lib.rt:138:5
 loop-again : tie.Need-loop-again Inv-loop μ-loop
 loop-again c =
     let a = c .before .before .before .before .before .before .before .before .args in
     let l = c .before .before .before .before .loop in
     (omega arith, rw (l .inv .1, c .joined .ensures) (store (λ j. join (a .op) (getD (a .a .now) j 0) (getD (a .b .now) j 0)) (a .out .now) (l .i) (omega arith)))
 
--- src/lib.rt:132:1
 same-length : tie.Need-same-length Inv-loop μ-loop
 same-length c =
     let a = c .before .before .before .before .before .args in
     ap length (c .before .loop .inv .1) ∙ written-length (λ j. join (a .op) (getD (a .a .now) j 0) (getD (a .b .now) j 0)) (c .before .loop .i) (a .out .now) (omega arith)
 
--- src/lib.rt:132:1
 returns : tie.Need-returns Inv-loop μ-loop
 returns c =
     let e : c .before .loop .i ≡ length (c .before .before .before .before .before .args .a .now) = omega arith in

@@ -1,30 +1,23 @@
+-- `bit::joined` meets its contract, case by case of the operation. Assumes nothing.
 use borrow.Author.Needs.{needs}
 use Rattle.bit.proofs.joined.Statement.{statement}
 use Rattle.bit.proofs.joined.Tie as tie
-use Rattle.bit.proofs.joined.Reads as reads
-use Rattle.bit.proofs.joined.Lts as lts
 
--- src/lib.rt:87:20
 enum-told : tie.Need-enum-told
 enum-told c = search needs
 
--- src/lib.rt:88:19
 enum-told-2 : tie.Need-enum-told-2
 enum-told-2 c = search needs
 
--- src/lib.rt:89:20
 enum-told-3 : tie.Need-enum-told-3
 enum-told-3 c = search needs
 
--- src/lib.rt:83:1
 returns : tie.Need-returns
 returns c = rw (c .enum-told .given .1)
 
--- src/lib.rt:83:1
 returns-2 : tie.Need-returns-2
 returns-2 c = rw (c .enum-told2 .given .1)
 
--- src/lib.rt:83:1
 returns-3 : tie.Need-returns-3
 returns-3 c = rw (c .enum-told3 .given .1)
 

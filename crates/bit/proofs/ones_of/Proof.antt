@@ -1,16 +1,15 @@
+-- `bit::ones_of` meets its contract. The loop's invariant: n is the number of ones in the first i words put together, 64 places each.
+-- The measure is the number of words left. Assumes nothing.
 use borrow.Author.Needs.{needs}
 use native.Mathlib.Omega.{arith}
-use Prim.Native.Nat.{ℕ, _+_, _-_, _*_, _≤_, _<_}
-use mathlib.Core.Path.{_≡_, refl, sym, ap, _∙_}
-use lib.ListN.{length, getD, drop}
+use Prim.Native.Nat.{_-_, _*_, _≤_}
+use mathlib.Core.Path.{_≡_}
+use lib.ListN.{length}
 use Rattle.places.specs.Below.{countBelow}
 use Rattle.bit.specs.Bits.{meets}
 use Rattle.bit.proofs.Vectors.{count-step, count-fits}
 use Rattle.bit.proofs.ones_of.Statement.{statement}
 use Rattle.bit.proofs.ones_of.Tie as tie
-use Rattle.bit.proofs.ones_of.Reads as reads
-use Rattle.bit.proofs.ones_of.Lts as lts
-use Rattle.bit.proofs.joined.Reads as joined-reads
 
 abbrev Inv-loop : tie.InvT-loop
 Inv-loop op a b n₀ i₀ n i = (i ≤ length a) × (n ≡ countBelow (meets op a b) (64 * i))
@@ -18,47 +17,37 @@ Inv-loop op a b n₀ i₀ n i = (i ≤ length a) × (n ≡ countBelow (meets op 
 abbrev μ-loop : tie.MeasureT-loop
 μ-loop op a b n₀ i₀ n i = length a - i
 
--- src/lib.rt:100:5
 loop-holds : tie.Need-loop-holds Inv-loop μ-loop
 unfolding countBelow
 loop-holds c = search needs
 
--- src/lib.rt:101:41
 mul-joined : tie.Need-mul-joined Inv-loop μ-loop
 mul-joined c = search needs
 
--- src/lib.rt:101:41
 shared-slice-read-joined : tie.Need-shared-slice-read-joined Inv-loop μ-loop
 shared-slice-read-joined c = search needs
 
--- src/lib.rt:101:47
 mul-joined-2 : tie.Need-mul-joined-2 Inv-loop μ-loop
 mul-joined-2 c = search needs
 
--- src/lib.rt:101:47
 shared-slice-read-joined-2 : tie.Need-shared-slice-read-joined-2 Inv-loop μ-loop
 shared-slice-read-joined-2 c = search needs
 
--- src/lib.rt:101:30
 joined-requires : tie.Need-joined-requires Inv-loop μ-loop
 joined-requires c κs = search needs
 
--- src/lib.rt:101:9
 add-n : tie.Need-add-n Inv-loop μ-loop
 add-n c =
     let a = c .before .before .before .before .before .before .before .args in
     let l = c .before .before .before .before .loop in
     record { fits = count-fits (meets (a .op) (a .a .now) (a .b .now)) (l .i) (l .n) (c .joined .result) (l .inv .1) (omega arith) (omega arith) }
 
--- src/lib.rt:102:9
 add-i : tie.Need-add-i Inv-loop μ-loop
 add-i c = search needs
 
--- src/lib.rt:100:5
 loop-less : tie.Need-loop-less Inv-loop μ-loop
 loop-less c = search needs
 
--- src/lib.rt:100:5
 loop-again : tie.Need-loop-again Inv-loop μ-loop
 loop-again c =
     let a = c .before .before .before .before .before .before .before .args in
@@ -67,7 +56,6 @@ loop-again c =
       count-step (a .op) (a .a .now) (a .b .now) (l .i) (l .n) (c .joined .result) (c .before .before .shared-slice-known3 .given (l .i) .fits) (c .before .shared-slice-known4 .given (l .i) .fits) (l .inv .1) (c .joined .ensures),
     )
 
--- src/lib.rt:94:1
 returns : tie.Need-returns Inv-loop μ-loop
 returns c =
     let e : c .before .loop .i ≡ length (c .before .before .before .before .args .a .now) = omega arith in

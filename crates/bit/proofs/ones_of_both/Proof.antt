@@ -1,17 +1,16 @@
+-- `bit::ones_of_both` meets its contract. The loop's invariant: the two numbers are those of the first i words.
+-- The measure is the number of words left. Assumes nothing.
 use borrow.Author.Needs.{needs}
 use native.Mathlib.Omega.{arith}
-use Prim.Native.Nat.{ℕ, _+_, _-_, _*_, _≤_, _<_}
-use mathlib.Core.Path.{_≡_, refl, sym, ap, _∙_}
-use lib.ListN.{length, getD, drop}
+use Prim.Native.Nat.{_-_, _*_, _≤_}
+use mathlib.Core.Path.{_≡_}
+use lib.ListN.{length}
 use Rattle.places.specs.Below.{countBelow}
 use Rattle.bit.specs.Bits.{meets}
 use Rattle.bit.proofs.Vectors.{count-step, count-fits}
 use Rattle.bit.specs.declared.Op.the-variants.{And, Or}
 use Rattle.bit.proofs.ones_of_both.Statement.{statement}
 use Rattle.bit.proofs.ones_of_both.Tie as tie
-use Rattle.bit.proofs.ones_of_both.Reads as reads
-use Rattle.bit.proofs.ones_of_both.Lts as lts
-use Rattle.bit.proofs.joined.Reads as joined-reads
 
 abbrev Inv-loop : tie.InvT-loop
 Inv-loop a b and₀ or₀ i₀ and or i = (i ≤ length a) × ((and ≡ countBelow (meets And a b) (64 * i)) × (or ≡ countBelow (meets Or a b) (64 * i)))
@@ -19,58 +18,46 @@ Inv-loop a b and₀ or₀ i₀ and or i = (i ≤ length a) × ((and ≡ countBel
 abbrev μ-loop : tie.MeasureT-loop
 μ-loop a b and₀ or₀ i₀ and or i = length a - i
 
--- src/lib.rt:121:5
 loop-holds : tie.Need-loop-holds Inv-loop μ-loop
 unfolding countBelow
 loop-holds c = search needs
 
--- src/lib.rt:122:17
 mul-x : tie.Need-mul-x Inv-loop μ-loop
 mul-x c = search needs
 
--- src/lib.rt:122:17
 shared-slice-read-x : tie.Need-shared-slice-read-x Inv-loop μ-loop
 shared-slice-read-x c = search needs
 
--- src/lib.rt:123:17
 mul-y : tie.Need-mul-y Inv-loop μ-loop
 mul-y c = search needs
 
--- src/lib.rt:123:17
 shared-slice-read-y : tie.Need-shared-slice-read-y Inv-loop μ-loop
 shared-slice-read-y c = search needs
 
--- src/lib.rt:124:32
 joined-requires : tie.Need-joined-requires Inv-loop μ-loop
 joined-requires c κs = search needs
 
--- src/lib.rt:124:9
 add-and : tie.Need-add-and Inv-loop μ-loop
 add-and c =
     let a = c .before .before .before .before .before .before .before .args in
     let l = c .before .before .before .before .loop in
     record { fits = count-fits (meets And (a .a .now) (a .b .now)) (l .i) (l .and) (c .joined .result) (l .inv .1 .0) (omega arith) (omega arith) }
 
--- src/lib.rt:125:31
 joined-requires-2 : tie.Need-joined-requires-2 Inv-loop μ-loop
 joined-requires-2 c κs = search needs
 
--- src/lib.rt:125:9
 add-or : tie.Need-add-or Inv-loop μ-loop
 add-or c =
     let a = c .before .before .before .before .before .before .before .before .args in
     let l = c .before .before .before .before .before .loop in
     record { fits = count-fits (meets Or (a .a .now) (a .b .now)) (l .i) (l .or) (c .joined2 .result) (l .inv .1 .1) (omega arith) (omega arith) }
 
--- src/lib.rt:126:9
 add-i : tie.Need-add-i Inv-loop μ-loop
 add-i c = search needs
 
--- src/lib.rt:121:5
 loop-less : tie.Need-loop-less Inv-loop μ-loop
 loop-less c = search needs
 
--- src/lib.rt:121:5
 loop-again : tie.Need-loop-again Inv-loop μ-loop
 loop-again c =
     let a = c .before .before .before .before .before .before .before .before .args in
@@ -84,7 +71,6 @@ loop-again c =
       ),
     )
 
--- src/lib.rt:114:1
 returns : tie.Need-returns Inv-loop μ-loop
 returns c =
     let e : c .before .loop .i ≡ length (c .before .before .before .before .args .a .now) = omega arith in

@@ -1,35 +1,27 @@
-use mathlib.Core.Path.{_≡_, sym, ap, _∙_}
+-- `bit::sum_of_and_or` meets its contract, as `sum_of` does, for both counts. Assumes nothing.
+use borrow.Author.Needs.{needs}
+use mathlib.Core.Path.{sym, _∙_}
 use Rattle.bit.proofs.Pairs.{pair-sound, alike, ones-dims}
 use Rattle.bit.proofs.Counted.{counts-answer}
 use Rattle.bit.specs.declared.Op.the-variants.{And, Or}
-use borrow.Author.Needs.{needs}
 use Rattle.bit.proofs.sum_of_and_or.Statement.{statement}
 use Rattle.bit.proofs.sum_of_and_or.Tie as tie
-use Rattle.bit.proofs.sum_of_and_or.Reads as reads
-use Rattle.bit.proofs.sum_of_and_or.Lts as lts
-use Rattle.bit.proofs.check_pair.Reads as check-pair-reads
-use Rattle.bit.proofs.ones_of_both.Reads as ones-of-both-reads
 
--- src/lib.rt:200:46
 check-pair-requires : tie.Need-check-pair-requires
 check-pair-requires c κs = search needs
 
--- src/lib.rt:200:29
 enum-known-number : tie.Need-enum-known-number
 enum-known-number c = search needs
 
--- src/lib.rt:201:9
 returns : tie.Need-returns
 returns c = counts-answer _ _ (rw (sym (c .before .before .before .check-pair .ensures .answer) ∙ c .before .number .given .1))
 
 enum-told : tie.Need-enum-told
 enum-told c = search needs
 
--- src/lib.rt:203:9
 ones-of-both-requires : tie.Need-ones-of-both-requires
 ones-of-both-requires c κs = let a = c .before .before .before .before .before .args in alike (pair-sound (a .dims-a) (a .a .now) (a .dims-b) (a .b .now) (sym (c .before .before .check-pair .ensures .answer) ∙ c .enum-told .given .1))
 
--- src/lib.rt:197:1
 returns-2 : tie.Need-returns-2
 returns-2 c =
     let a = c .before .before .before .before .before .before .args in

@@ -1,28 +1,22 @@
-use native.Mathlib.Omega.{arith}
-use mathlib.Core.Path.{_≡_, sym, ap, _∙_}
-use lib.ListN.{length}
+-- `bit::vector_of` meets its contract: of checked vectors the words put together are those of the bits put together. Assumes nothing.
 use borrow.Author.Tests.{lt-ltb, le-ltb}
+use borrow.Author.Needs.{needs}
+use native.Mathlib.Omega.{arith}
+use mathlib.Core.Path.{sym, _∙_}
+use lib.ListN.{length}
 use Rattle.places.proofs.Below.{length-below}
 use Rattle.refusal.proofs.Told.{refused-writes, done-writes}
 use Rattle.bit.specs.Bits.{meets, wordsFor, wordsOf}
 use Rattle.bit.proofs.Pairs.{pair-sound, alike, joins-words}
-use borrow.Author.Needs.{needs}
 use Rattle.bit.proofs.vector_of.Statement.{statement}
 use Rattle.bit.proofs.vector_of.Tie as tie
-use Rattle.bit.proofs.vector_of.Reads as reads
-use Rattle.bit.proofs.vector_of.Lts as lts
-use Rattle.bit.proofs.check_pair.Reads as check-pair-reads
-use Rattle.bit.proofs.combine.Reads as combine-reads
 
--- src/lib.rt:156:46
 check-pair-requires : tie.Need-check-pair-requires
 check-pair-requires c κs = search needs
 
--- src/lib.rt:156:29
 enum-known-number : tie.Need-enum-known-number
 enum-known-number c = search needs
 
--- src/lib.rt:157:9
 returns : tie.Need-returns
 returns c =
     let a = c .before .before .before .before .before .before .before .args in
@@ -31,7 +25,6 @@ returns c =
 enum-told : tie.Need-enum-told
 enum-told c = search needs
 
--- src/lib.rt:161:9
 returns-2 : tie.Need-returns-2
 returns-2 c =
     let a = c .before .before .before .before .before .before .before .args in
@@ -39,17 +32,14 @@ returns-2 c =
     let long = pair-sound (a .dims-a) (a .a .now) (a .dims-b) (a .b .now) passed .left .long in
     refused-writes (a .dims-a) (wordsOf (a .dims-a) (meets (a .op) (a .a .now) (a .b .now))) (rw (passed, lt-ltb (length (a .out .now)) (wordsFor (a .dims-a)) (omega (arith, long)), long))
 
--- src/lib.rt:163:5
 combine-requires : tie.Need-combine-requires
 combine-requires c κs =
     let a = c .before .before .before .before .before .before .before .before .args in
     (alike (pair-sound (a .dims-a) (a .a .now) (a .dims-b) (a .b .now) (sym (c .before .before .before .before .check-pair .ensures .answer) ∙ c .before .before .enum-told .given .1)), omega arith)
 
--- src/lib.rt:153:1
 same-length : tie.Need-same-length
 same-length c = search needs
 
--- src/lib.rt:153:1
 returns-3 : tie.Need-returns-3
 returns-3 c =
     let a = c .before .before .before .before .before .before .before .before .before .before .before .args in

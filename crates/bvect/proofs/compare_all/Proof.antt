@@ -1,15 +1,13 @@
+-- `bvect::compare_all` meets its contract. The loop's invariant: the first i words are the same. The measure is the number of words left. Assumes nothing.
 use borrow.Author.Count.{below-more}
-use Rattle.bvect.proofs.Orders.{words-decide, words-equal}
 use borrow.Author.Needs.{needs}
 use native.Mathlib.Omega.{arith}
-use Prim.Native.Nat.{ℕ, _+_, _-_, _*_, _≤_, _<_}
-use mathlib.Core.Path.{_≡_, refl, sym, ap, _∙_}
-use lib.ListN.{length, getD, drop}
+use Prim.Native.Nat.{ℕ, _-_, _≤_, _<_}
+use mathlib.Core.Path.{_≡_}
+use lib.ListN.{length, getD}
+use Rattle.bvect.proofs.Orders.{words-decide, words-equal}
 use Rattle.bvect.proofs.compare_all.Statement.{statement}
 use Rattle.bvect.proofs.compare_all.Tie as tie
-use Rattle.bvect.proofs.compare_all.Reads as reads
-use Rattle.bvect.proofs.compare_all.Lts as lts
-use Rattle.bvect.proofs.compare_words.Reads as compare-words-reads
 
 abbrev Inv-loop : tie.InvT-loop
 Inv-loop a b i₀ i = (i ≤ length a) × ((j : ℕ) → j < i → getD a j 0 ≡ getD b j 0)
@@ -17,50 +15,39 @@ Inv-loop a b i₀ i = (i ≤ length a) × ((j : ℕ) → j < i → getD a j 0 �
 abbrev μ-loop : tie.MeasureT-loop
 μ-loop a b i₀ i = length a - i
 
--- src/lib.rt:240:5
 loop-holds : tie.Need-loop-holds Inv-loop μ-loop
 loop-holds c = search needs
 
--- src/lib.rt:241:17
 mul-x : tie.Need-mul-x Inv-loop μ-loop
 mul-x c = search needs
 
--- src/lib.rt:241:17
 shared-slice-read-x : tie.Need-shared-slice-read-x Inv-loop μ-loop
 shared-slice-read-x c = search needs
 
--- src/lib.rt:242:17
 mul-y : tie.Need-mul-y Inv-loop μ-loop
 mul-y c = search needs
 
--- src/lib.rt:242:17
 shared-slice-read-y : tie.Need-shared-slice-read-y Inv-loop μ-loop
 shared-slice-read-y c = search needs
 
--- src/lib.rt:244:13
 compare-words-requires : tie.Need-compare-words-requires Inv-loop μ-loop
 compare-words-requires c κs = search needs
 
--- src/lib.rt:244:13
 returns : tie.Need-returns Inv-loop μ-loop
 returns c =
     let a = c .before .before .before .before .before .before .before .before .args in
     let l = c .before .before .before .before .before .loop in
     rw (words-decide (a .a .now) (a .b .now) (l .i) (c .before .before .before .shared-slice-known3 .given (l .i) .fits) (c .before .before .shared-slice-known4 .given (l .i) .fits) (c .before .if1 .taken) (omega arith) (l .inv .1)) (c .compare-words .ensures)
 
--- src/lib.rt:246:9
 add-i : tie.Need-add-i Inv-loop μ-loop
 add-i c = search needs
 
--- src/lib.rt:240:5
 loop-less : tie.Need-loop-less Inv-loop μ-loop
 loop-less c = search needs
 
--- src/lib.rt:240:5
 loop-again : tie.Need-loop-again Inv-loop μ-loop
 loop-again c = (omega arith, below-more _ _ (c .before .before .before .before .loop .inv .1) (c .if1 .left))
 
--- src/lib.rt:235:1
 returns-2 : tie.Need-returns-2 Inv-loop μ-loop
 returns-2 c =
     let a = c .before .before .before .before .args in

@@ -1,3 +1,4 @@
+-- `bvect::gather` meets its contract. The loop's invariant: the word has the first k bits. The measure is the number of bits left. Assumes nothing.
 use borrow.Author.Needs.{needs}
 use native.Mathlib.Numerals.{add-one}
 use native.Mathlib.Omega.{arith}
@@ -7,10 +8,6 @@ use Rattle.bit.specs.Bits.{bitAt, cut, wordFrom}
 use Rattle.bit.proofs.Bits.{word-lt}
 use Rattle.bvect.proofs.gather.Statement.{statement}
 use Rattle.bvect.proofs.gather.Tie as tie
-use Rattle.bvect.proofs.gather.Reads as reads
-use Rattle.bvect.proofs.gather.Lts as lts
-use Rattle.bvect.proofs.bit_before.Reads as bit-before-reads
-use Rattle.bvect.proofs.with_bit.Reads as with-bit-reads
 
 abbrev Inv-loop : tie.InvT-loop
 Inv-loop words from end word₀ k₀ word k = (k ≤ 64) × (word ≡ wordFrom (cut end (bitAt words)) from k)
@@ -18,35 +15,28 @@ Inv-loop words from end word₀ k₀ word k = (k ≤ 64) × (word ≡ wordFrom (
 abbrev μ-loop : tie.MeasureT-loop
 μ-loop words from end word₀ k₀ word k = 64 - k
 
--- src/lib.rt:165:5
 loop-holds : tie.Need-loop-holds Inv-loop μ-loop
 unfolding wordFrom
 loop-holds c = search needs
 
--- src/lib.rt:166:52
 add-bit-before : tie.Need-add-bit-before Inv-loop μ-loop
 add-bit-before c = search needs
 
--- src/lib.rt:166:34
 bit-before-requires : tie.Need-bit-before-requires Inv-loop μ-loop
 bit-before-requires c κs = search needs
 
--- src/lib.rt:166:9
 with-bit-requires : tie.Need-with-bit-requires Inv-loop μ-loop
 with-bit-requires c κs =
     let a = c .before .before .before .before .args in
     let l = c .before .before .loop in
     (rw (l .inv .1) (word-lt (cut (a .end) (bitAt (a .words .now))) (l .k) (a .from)), omega arith)
 
--- src/lib.rt:167:9
 add-k : tie.Need-add-k Inv-loop μ-loop
 add-k c = search needs
 
--- src/lib.rt:165:5
 loop-less : tie.Need-loop-less Inv-loop μ-loop
 loop-less c = search needs
 
--- src/lib.rt:165:5
 loop-again : tie.Need-loop-again Inv-loop μ-loop
 unfolding wordFrom
 loop-again c =
@@ -54,7 +44,6 @@ loop-again c =
     let l = c .before .before .before .loop in
     (omega arith, rw (add-one (l .k), c .with-bit .ensures, c .before .bit-before .ensures, l .inv .1))
 
--- src/lib.rt:159:1
 returns : tie.Need-returns Inv-loop μ-loop
 returns c =
     let e : c .before .loop .k ≡ 64 = omega arith in

@@ -1,3 +1,5 @@
+-- `bvect::gather_all` meets its contract. The loop's invariant: the first j words are gathered, in front of what is left of the old output.
+-- The measure is the number of words left. Assumes nothing.
 use borrow.Author.Needs.{needs}
 use native.Mathlib.Omega.{arith}
 use Prim.Native.Nat.{_+_, _-_, _*_, _≤_}
@@ -9,9 +11,6 @@ use Rattle.places.proofs.Below.{store, written-length}
 use Rattle.bit.specs.Bits.{bitAt, cut, wordFrom}
 use Rattle.bvect.proofs.gather_all.Statement.{statement}
 use Rattle.bvect.proofs.gather_all.Tie as tie
-use Rattle.bvect.proofs.gather_all.Reads as reads
-use Rattle.bvect.proofs.gather_all.Lts as lts
-use Rattle.bvect.proofs.gather.Reads as gather-reads
 
 abbrev Inv-loop : tie.InvT-loop
 Inv-loop words start end n out₀ j₀ out j =
@@ -20,57 +19,46 @@ Inv-loop words start end n out₀ j₀ out j =
 abbrev μ-loop : tie.MeasureT-loop
 μ-loop words start end n out₀ j₀ out j = n - j
 
--- src/lib.rt:178:5
 loop-holds : tie.Need-loop-holds Inv-loop μ-loop
 unfolding listBelow
 loop-holds c = search needs
 
--- src/lib.rt:179:40
 mul-gather : tie.Need-mul-gather Inv-loop μ-loop
 mul-gather c = search needs
 
--- src/lib.rt:179:32
 add-gather : tie.Need-add-gather Inv-loop μ-loop
 add-gather c = search needs
 
--- src/lib.rt:179:18
 gather-requires : tie.Need-gather-requires Inv-loop μ-loop
 gather-requires c κs = search needs
 
--- src/lib.rt:179:9
 mul-out : tie.Need-mul-out Inv-loop μ-loop
 mul-out c = search needs
 
--- src/lib.rt:179:9
 slice-write-out : tie.Need-slice-write-out Inv-loop μ-loop
 slice-write-out c =
     let a = c .before .before .before .before .before .args in
     let l = c .before .before .loop in
     omega (arith, written-length (λ i. wordFrom (cut (a .end) (bitAt (a .words .now))) (a .start + 64 * i) 64) (l .j) (a .out .now) (omega arith), ap length (l .inv .1))
 
--- src/lib.rt:180:9
 add-j : tie.Need-add-j Inv-loop μ-loop
 add-j c = search needs
 
--- src/lib.rt:178:5
 loop-less : tie.Need-loop-less Inv-loop μ-loop
 loop-less c = search needs
 
--- src/lib.rt:178:5
 loop-again : tie.Need-loop-again Inv-loop μ-loop
 loop-again c =
     let a = c .before .before .before .before .before .args in
     let l = c .before .before .loop in
     (omega arith, rw (l .inv .1, c .gather .ensures) (store (λ i. wordFrom (cut (a .end) (bitAt (a .words .now))) (a .start + 64 * i) 64) (a .out .now) (l .j) (omega arith)))
 
--- src/lib.rt:173:1
 same-length : tie.Need-same-length Inv-loop μ-loop
 same-length c =
     let a = c .before .before .before .before .args in
     let l = c .before .loop in
     ap length (l .inv .1) ∙ written-length (λ i. wordFrom (cut (a .end) (bitAt (a .words .now))) (a .start + 64 * i) 64) (l .j) (a .out .now) (omega arith)
 
--- src/lib.rt:173:1
 returns : tie.Need-returns Inv-loop μ-loop
 returns c =
     let e : c .before .loop .j ≡ c .before .before .before .before .args .n = omega arith in

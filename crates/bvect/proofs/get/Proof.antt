@@ -1,50 +1,40 @@
+-- `bvect::get` meets its contract: the check, the index, the bit. Assumes nothing.
+use borrow.Author.Tests.{le-leb, lt-leb}
+use borrow.Author.Needs.{needs}
 use native.Mathlib.Omega.{arith}
 use mathlib.Core.Path.{sym, _∙_}
-use borrow.Author.Tests.{le-leb, lt-leb}
 use Rattle.refusal.proofs.Told.{asked-answer}
 use Rattle.bit.proofs.Checks.{sound}
-use borrow.Author.Needs.{needs}
 use Rattle.bvect.proofs.get.Statement.{statement}
 use Rattle.bvect.proofs.get.Tie as tie
-use Rattle.bvect.proofs.get.Reads as reads
-use Rattle.bvect.proofs.get.Lts as lts
-use Rattle.bit.proofs.check.Reads as check-reads
-use Rattle.bvect.proofs.bit_at.Reads as bit-at-reads
 
--- src/lib.rt:73:46
 check-requires : tie.Need-check-requires
 check-requires c κs = search needs
 
--- src/lib.rt:73:29
 enum-known-number : tie.Need-enum-known-number
 enum-known-number c = search needs
 
--- src/lib.rt:74:9
 returns : tie.Need-returns
 returns c = asked-answer _ (rw (sym (c .before .before .before .check .ensures .answer) ∙ c .before .number .given .1))
 
 enum-told : tie.Need-enum-told
 enum-told c = search needs
 
--- src/lib.rt:77:9
 returns-2 : tie.Need-returns-2
 returns-2 c =
     let a = c .before .before .before .before .before .args in
     asked-answer _ (rw (sym (c .before .before .before .check .ensures .answer) ∙ c .before .enum-told .given .1, le-leb (a .dims) (a .index) (c .if1 .taken)))
 
--- src/lib.rt:79:8
 bit-at-requires : tie.Need-bit-at-requires
 bit-at-requires c κs =
     let a = c .before .before .before .before .before .args in
     omega (arith, sound (a .dims) (a .words .now) (sym (c .before .before .before .check .ensures .answer) ∙ c .before .enum-told .given .1) .long)
 
--- src/lib.rt:80:9
 returns-3 : tie.Need-returns-3
 returns-3 c =
     let a = c .before .before .before .before .before .before .before .args in
     asked-answer _ (rw (sym (c .before .before .before .before .before .check .ensures .answer) ∙ c .before .before .before .enum-told .given .1, lt-leb (a .dims) (a .index) (c .before .before .if1 .left), sym (c .before .bit-at .ensures) ∙ c .if2 .taken))
 
--- src/lib.rt:70:1
 returns-4 : tie.Need-returns-4
 returns-4 c =
     let a = c .before .before .before .before .before .before .before .args in

@@ -1,40 +1,32 @@
+-- `bvect::operator_dot` meets its contract: a count of bits is a float exactly, and is negated. Assumes nothing.
+use borrow.Author.Needs.{needs}
 use Rattle.refusal.proofs.Told.{distance-answer}
 use Rattle.bit.specs.declared.Op.the-variants.{And}
 use Rattle.bvect.proofs.Counts.{count-float, counted, not-counted}
-use borrow.Author.Needs.{needs}
 use Rattle.bvect.proofs.operator_dot.Statement.{statement}
 use Rattle.bvect.proofs.operator_dot.Tie as tie
-use Rattle.bvect.proofs.operator_dot.Reads as reads
-use Rattle.bvect.proofs.operator_dot.Lts as lts
-use Rattle.bit.proofs.sum_of_and.Reads as sum-of-and-reads
 
--- src/lib.rt:89:11
 sum-of-and-requires : tie.Need-sum-of-and-requires
 sum-of-and-requires c κs = search needs
 
--- src/lib.rt:90:26
 enum-known-n : tie.Need-enum-known-n
 enum-known-n c = search needs
 
--- src/lib.rt:90:50
 int-to-float-t10 : tie.Need-int-to-float-t10
 int-to-float-t10 c =
     let a = c .before .before .before .before .before .before .before .args in
     let k = counted (a .dims-a) (a .a .now) (a .dims-b) (a .b .now) And (c .before .before .before .before .sum-of-and .ensures) (c .before .before .n .given .1) in
     rw (k .1) (count-float (a .dims-a) (a .a .now) (a .dims-b) (a .b .now) And (k .0))
 
--- src/lib.rt:91:29
 enum-known-number : tie.Need-enum-known-number
 enum-known-number c = search needs
 
--- src/lib.rt:86:1
 returns : tie.Need-returns
 returns c =
     let a = c .before .before .before .before .before .before .before .args in
     let k = counted (a .dims-a) (a .a .now) (a .dims-b) (a .b .now) And (c .before .before .before .before .sum-of-and .ensures) (c .before .before .n .given .1) in
     distance-answer _ (rw (k .0, k .1))
 
--- src/lib.rt:86:1
 returns-2 : tie.Need-returns-2
 returns-2 c =
     let a = c .before .before .before .before .before .before .args in

@@ -1,40 +1,32 @@
+-- `bvect::operator_hamming` meets its contract: a count of bits is a float exactly. Assumes nothing.
+use borrow.Author.Needs.{needs}
 use Rattle.refusal.proofs.Told.{distance-answer}
 use Rattle.bit.specs.declared.Op.the-variants.{Xor}
 use Rattle.bvect.proofs.Counts.{count-float, counted, not-counted}
-use borrow.Author.Needs.{needs}
 use Rattle.bvect.proofs.operator_hamming.Statement.{statement}
 use Rattle.bvect.proofs.operator_hamming.Tie as tie
-use Rattle.bvect.proofs.operator_hamming.Reads as reads
-use Rattle.bvect.proofs.operator_hamming.Lts as lts
-use Rattle.bit.proofs.sum_of_xor.Reads as sum-of-xor-reads
 
--- src/lib.rt:99:11
 sum-of-xor-requires : tie.Need-sum-of-xor-requires
 sum-of-xor-requires c κs = search needs
 
--- src/lib.rt:100:26
 enum-known-n : tie.Need-enum-known-n
 enum-known-n c = search needs
 
--- src/lib.rt:100:48
 int-to-float-t10 : tie.Need-int-to-float-t10
 int-to-float-t10 c =
     let a = c .before .before .before .before .before .before .before .args in
     let k = counted (a .dims-a) (a .a .now) (a .dims-b) (a .b .now) Xor (c .before .before .before .before .sum-of-xor .ensures) (c .before .before .n .given .1) in
     rw (k .1) (count-float (a .dims-a) (a .a .now) (a .dims-b) (a .b .now) Xor (k .0))
 
--- src/lib.rt:101:29
 enum-known-number : tie.Need-enum-known-number
 enum-known-number c = search needs
 
--- src/lib.rt:96:1
 returns : tie.Need-returns
 returns c =
     let a = c .before .before .before .before .before .before .before .args in
     let k = counted (a .dims-a) (a .a .now) (a .dims-b) (a .b .now) Xor (c .before .before .before .before .sum-of-xor .ensures) (c .before .before .n .given .1) in
     distance-answer _ (rw (k .0, k .1))
 
--- src/lib.rt:96:1
 returns-2 : tie.Need-returns-2
 returns-2 c =
     let a = c .before .before .before .before .before .before .args in

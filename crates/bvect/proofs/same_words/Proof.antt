@@ -1,17 +1,16 @@
+-- `bvect::same_words` meets its contract. The loop's invariant: the first i words are the same. The measure is the number of words left. Assumes nothing.
 use borrow.Author.Count.{below-more}
 use borrow.Author.Tests.{eq-eqb, ne-eqb}
-use mathlib.Core.Bool.{not}
-use lib.Dec.{eqb}
-use Rattle.places.proofs.Below.{any-true, any-none}
 use borrow.Author.Needs.{needs}
 use native.Mathlib.Omega.{arith}
-use Prim.Native.Nat.{ℕ, _+_, _-_, _*_, _≤_, _<_}
-use mathlib.Core.Path.{_≡_, refl, sym, ap, _∙_}
-use lib.ListN.{length, getD, drop}
+use Prim.Native.Nat.{ℕ, _-_, _≤_, _<_}
+use mathlib.Core.Bool.{not}
+use mathlib.Core.Path.{_≡_, ap}
+use lib.Dec.{eqb}
+use lib.ListN.{length, getD}
+use Rattle.places.proofs.Below.{any-true, any-none}
 use Rattle.bvect.proofs.same_words.Statement.{statement}
 use Rattle.bvect.proofs.same_words.Tie as tie
-use Rattle.bvect.proofs.same_words.Reads as reads
-use Rattle.bvect.proofs.same_words.Lts as lts
 
 abbrev Inv-loop : tie.InvT-loop
 Inv-loop a b i₀ i = (i ≤ length a) × ((j : ℕ) → j < i → getD a j 0 ≡ getD b j 0)
@@ -19,46 +18,36 @@ Inv-loop a b i₀ i = (i ≤ length a) × ((j : ℕ) → j < i → getD a j 0 �
 abbrev μ-loop : tie.MeasureT-loop
 μ-loop a b i₀ i = length a - i
 
--- src/lib.rt:193:5
 loop-holds : tie.Need-loop-holds Inv-loop μ-loop
 loop-holds c = search needs
 
--- src/lib.rt:194:12
 mul-if1 : tie.Need-mul-if1 Inv-loop μ-loop
 mul-if1 c = search needs
 
--- src/lib.rt:194:12
 shared-slice-read-if1 : tie.Need-shared-slice-read-if1 Inv-loop μ-loop
 shared-slice-read-if1 c = search needs
 
--- src/lib.rt:194:20
 mul-if1-2 : tie.Need-mul-if1-2 Inv-loop μ-loop
 mul-if1-2 c = search needs
 
--- src/lib.rt:194:20
 shared-slice-read-if1-2 : tie.Need-shared-slice-read-if1-2 Inv-loop μ-loop
 shared-slice-read-if1-2 c = search needs
 
--- src/lib.rt:195:13
 returns : tie.Need-returns Inv-loop μ-loop
 returns c =
     let a = c .before .before .before .before .before .args in
     let l = c .before .before .before .before .loop in
     rw (any-true (λ j. not (eqb (getD (a .a .now) j 0) (getD (a .b .now) j 0))) (length (a .a .now)) (l .i) (omega arith) (ap not (ne-eqb (getD (a .a .now) (l .i) 0) (getD (a .b .now) (l .i) 0) (c .if1 .taken))))
 
--- src/lib.rt:197:9
 add-i : tie.Need-add-i Inv-loop μ-loop
 add-i c = search needs
 
--- src/lib.rt:193:5
 loop-less : tie.Need-loop-less Inv-loop μ-loop
 loop-less c = search needs
 
--- src/lib.rt:193:5
 loop-again : tie.Need-loop-again Inv-loop μ-loop
 loop-again c = (omega arith, below-more _ _ (c .before .before .before .before .loop .inv .1) (c .if1 .left))
 
--- src/lib.rt:188:1
 returns-2 : tie.Need-returns-2 Inv-loop μ-loop
 returns-2 c =
     let a = c .before .before .args in

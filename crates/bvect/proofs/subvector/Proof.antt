@@ -1,34 +1,25 @@
-use native.Mathlib.Omega.{arith}
-use Prim.Native.Nat.{ℕ, _+_, _-_, _≤_}
-use mathlib.Core.List.{List, _++_}
-use mathlib.Core.Path.{_≡_, sym, ap, _∙_}
-use lib.ListN.{length, drop}
+-- `bvect::subvector` meets its contract: the bounds name a part of the vector, and the gathered words are the words of that part. Assumes nothing.
 use borrow.Author.Tests.{lt-ltb, le-ltb}
+use borrow.Author.Needs.{needs}
+use native.Mathlib.Omega.{arith}
+use Prim.Native.Nat.{_+_, _-_}
+use mathlib.Core.Path.{sym, _∙_}
+use lib.ListN.{length}
 use Rattle.refusal.specs.Bounds.{startOf, endOf}
 use Rattle.refusal.proofs.Spans.{span-bad, span-part}
 use Rattle.refusal.proofs.Told.{refused-writes}
 use Rattle.bit.specs.Bits.{bitAt, wordsFor, wordsOf}
 use Rattle.bit.proofs.Checks.{sound}
 use Rattle.bvect.proofs.Slices.{slice-writes}
-use borrow.Author.Needs.{needs}
 use Rattle.bvect.proofs.subvector.Statement.{statement}
 use Rattle.bvect.proofs.subvector.Tie as tie
-use Rattle.bvect.proofs.subvector.Reads as reads
-use Rattle.bvect.proofs.subvector.Lts as lts
-use Rattle.bit.proofs.check.Reads as check-reads
-use Rattle.bit.proofs.words_for.Reads as words-for-reads
-use Rattle.bvect.proofs.gather_all.Reads as gather-all-reads
-use Rattle.refusal.proofs.span_of.Reads as span-of-reads
 
--- src/lib.rt:189:46
 check-requires : tie.Need-check-requires
 check-requires c κs = search needs
 
--- src/lib.rt:189:29
 enum-known-number : tie.Need-enum-known-number
 enum-known-number c = search needs
 
--- src/lib.rt:190:9
 returns : tie.Need-returns
 returns c =
     let a = c .before .before .before .before .before .before .args in
@@ -37,36 +28,29 @@ returns c =
 enum-told : tie.Need-enum-told
 enum-told c = search needs
 
--- src/lib.rt:192:9
 span-of-requires : tie.Need-span-of-requires
 span-of-requires c κs = search needs
 
--- src/lib.rt:193:18
 enum-known-span : tie.Need-enum-known-span
 enum-known-span c = search needs
 
--- src/lib.rt:194:9
 enum-told-2 : tie.Need-enum-told-2
 enum-told-2 c = search needs
 
--- src/lib.rt:194:9
 returns-2 : tie.Need-returns-2
 returns-2 c =
     let a = c .before .before .before .before .before .before .before .before .args in
     let bad = span-bad (a .from) (a .to) (a .dims) (sym (c .before .before .span-of .ensures) ∙ c .enum-told2 .given .1) in
     refused-writes (endOf (a .dims) (a .to) - startOf (a .from)) (wordsOf (endOf (a .dims) (a .to) - startOf (a .from)) (λ i. bitAt (a .words .now) (startOf (a .from) + i))) (rw (sym (c .before .before .before .before .before .check .ensures .answer) ∙ c .before .before .before .enum-told .given .1, bad))
 
--- src/lib.rt:196:16
 sub-size : tie.Need-sub-size
 sub-size c =
     let a = c .before .before .before .before .before .before .before .before .before .args in
     omega (arith, span-part (a .from) (a .to) (a .dims) (c .before .span .given .0 .0) (c .before .span .given .0 .1 .0) (sym (c .before .before .before .span-of .ensures) ∙ c .before .span .given .1) .rising)
 
--- src/lib.rt:197:9
 words-for-requires : tie.Need-words-for-requires
 words-for-requires c κs = search needs
 
--- src/lib.rt:199:9
 returns-3 : tie.Need-returns-3
 returns-3 c =
     let a = c .before .before .before .before .before .before .before .before .before .before .before .args in
@@ -74,15 +58,12 @@ returns-3 c =
     refused-writes (endOf (a .dims) (a .to) - startOf (a .from)) (wordsOf (endOf (a .dims) (a .to) - startOf (a .from)) (λ i. bitAt (a .words .now) (startOf (a .from) + i)))
     (rw (sym (c .before .before .before .before .before .before .before .before .check .ensures .answer) ∙ c .before .before .before .before .before .before .enum-told .given .1, p .fair, lt-ltb (length (a .out .now)) (wordsFor (endOf (a .dims) (a .to) - startOf (a .from))) (omega (arith, p .starts, p .ends, c .before .words-for .ensures)), c .before .words-for .ensures, p .starts, p .ends))
 
--- src/lib.rt:201:23
 cast-gather-all : tie.Need-cast-gather-all
 cast-gather-all c = search needs
 
--- src/lib.rt:201:39
 cast-gather-all-2 : tie.Need-cast-gather-all-2
 cast-gather-all-2 c = search needs
 
--- src/lib.rt:201:5
 gather-all-requires : tie.Need-gather-all-requires
 gather-all-requires c κs =
     let a = c .before .before .before .before .before .before .before .before .before .before .before .before .args in
@@ -95,11 +76,9 @@ gather-all-requires c κs =
       room = omega arith;
     }
 
--- src/lib.rt:186:1
 same-length : tie.Need-same-length
 same-length c = search needs
 
--- src/lib.rt:186:1
 returns-4 : tie.Need-returns-4
 returns-4 c =
     let a = c .before .before .before .before .before .before .before .before .before .before .before .before .before .before .before .args in

@@ -1,41 +1,34 @@
+-- `bvect::zero` meets its contract: clear words are the words of the vector without ones. Assumes nothing.
+use borrow.Author.Tests.{lt-ltb, le-ltb}
+use borrow.Author.Needs.{needs}
 use native.Mathlib.Omega.{arith}
-use Prim.Native.Nat.{ℕ, _≤_}
+use Prim.Native.Nat.{ℕ}
 use mathlib.Core.Bool.{false}
 use mathlib.Core.List.{List, _++_}
-use mathlib.Core.Path.{_≡_, sym, ap, _∙_}
+use mathlib.Core.Path.{sym, ap, _∙_}
 use lib.ListN.{length, drop}
-use borrow.Author.Tests.{lt-ltb, le-ltb}
 use Rattle.places.specs.Below.{listBelow}
 use Rattle.places.proofs.Below.{length-below}
 use Rattle.refusal.proofs.Told.{refused-writes, done-writes}
 use Rattle.bit.specs.Bits.{wordsFor, wordsOf}
 use Rattle.bit.proofs.Checks.{some, bad-zero, bad-high, good-dims}
 use Rattle.bvect.proofs.Slices.{words-none}
-use borrow.Author.Needs.{needs}
 use Rattle.bvect.proofs.zero.Statement.{statement}
 use Rattle.bvect.proofs.zero.Tie as tie
-use Rattle.bvect.proofs.zero.Reads as reads
-use Rattle.bvect.proofs.zero.Lts as lts
-use Rattle.bit.proofs.words_for.Reads as words-for-reads
-use Rattle.bvect.proofs.clear.Reads as clear-reads
 
--- src/lib.rt:48:9
 returns : tie.Need-returns
 returns c =
     let a = c .before .before .args in
     refused-writes (a .dims) (wordsOf (a .dims) (λ i. false)) (rw (bad-zero (a .dims) (c .if1 .taken)))
 
--- src/lib.rt:51:9
 returns-2 : tie.Need-returns-2
 returns-2 c =
     let a = c .before .before .before .args in
     refused-writes (a .dims) (wordsOf (a .dims) (λ i. false)) (rw (bad-high (a .dims) (c .if2 .taken)))
 
--- src/lib.rt:53:9
 words-for-requires : tie.Need-words-for-requires
 words-for-requires c κs = search needs
 
--- src/lib.rt:55:9
 returns-3 : tie.Need-returns-3
 returns-3 c =
     let a = c .before .before .before .before .before .args in
@@ -43,15 +36,12 @@ returns-3 c =
     refused-writes (a .dims) (wordsOf (a .dims) (λ i. false))
     (rw (good-dims (a .dims) (some (a .dims) (c .before .before .before .if1 .left)) (c .before .before .if2 .left), lt-ltb (length (a .out .now)) (wordsFor (a .dims)) (omega arith), n))
 
--- src/lib.rt:57:5
 clear-requires : tie.Need-clear-requires
 clear-requires c κs = search needs
 
--- src/lib.rt:44:1
 same-length : tie.Need-same-length
 same-length c = search needs
 
--- src/lib.rt:44:1
 returns-4 : tie.Need-returns-4
 returns-4 c =
     let a = c .before .before .before .before .before .before .before .before .before .args in

@@ -1,42 +1,32 @@
+-- `refusal::end_of` meets its contract: each bound gives its end. Assumes nothing.
 use borrow.Author.Needs.{needs}
 use Rattle.refusal.proofs.end_of.Statement.{statement}
 use Rattle.refusal.proofs.end_of.Tie as tie
-use Rattle.refusal.proofs.end_of.Reads as reads
-use Rattle.refusal.proofs.end_of.Lts as lts
 
--- src/lib.rt:85:25
 enum-known-to : tie.Need-enum-known-to
 enum-known-to c = search needs
 
--- src/lib.rt:85:31
 cast-result : tie.Need-cast-result
 cast-result c = search needs
 
--- src/lib.rt:85:31
 add-result : tie.Need-add-result
 add-result c = search needs
 
--- src/lib.rt:86:25
 enum-known-to-2 : tie.Need-enum-known-to-2
 enum-known-to-2 c = search needs
 
--- src/lib.rt:86:31
 cast-result-2 : tie.Need-cast-result-2
 cast-result-2 c = search needs
 
--- src/lib.rt:87:29
 enum-told : tie.Need-enum-told
 enum-told c = search needs
 
--- src/lib.rt:81:1
 returns : tie.Need-returns
 returns c = rw (c .before .to .given .1)
 
--- src/lib.rt:81:1
 returns-2 : tie.Need-returns-2
 returns-2 c = search needs
 
--- src/lib.rt:81:1
 returns-3 : tie.Need-returns-3
 returns-3 c = search needs
 

@@ -1,42 +1,32 @@
+-- `refusal::start_of` meets its contract: each bound gives its start. Assumes nothing.
 use borrow.Author.Needs.{needs}
 use Rattle.refusal.proofs.start_of.Statement.{statement}
 use Rattle.refusal.proofs.start_of.Tie as tie
-use Rattle.refusal.proofs.start_of.Reads as reads
-use Rattle.refusal.proofs.start_of.Lts as lts
 
--- src/lib.rt:75:25
 enum-known-from : tie.Need-enum-known-from
 enum-known-from c = search needs
 
--- src/lib.rt:75:31
 cast-result : tie.Need-cast-result
 cast-result c = search needs
 
--- src/lib.rt:76:25
 enum-known-from-2 : tie.Need-enum-known-from-2
 enum-known-from-2 c = search needs
 
--- src/lib.rt:76:31
 cast-result-2 : tie.Need-cast-result-2
 cast-result-2 c = search needs
 
--- src/lib.rt:76:31
 add-result : tie.Need-add-result
 add-result c = search needs
 
--- src/lib.rt:77:29
 enum-told : tie.Need-enum-told
 enum-told c = search needs
 
--- src/lib.rt:71:1
 returns : tie.Need-returns
 returns c = search needs
 
--- src/lib.rt:71:1
 returns-2 : tie.Need-returns-2
 returns-2 c = rw (c .before .from2 .given .1)
 
--- src/lib.rt:71:1
 returns-3 : tie.Need-returns-3
 returns-3 c = search needs
 
