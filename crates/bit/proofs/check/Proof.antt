@@ -17,7 +17,7 @@ returns c =
 returns-2 : tie.Need-returns-2
 returns-2 c =
     let a = c .before .before .before .args in
-    checked-answer (sym (refused-dims (a .dims) (a .words .now) (bad-high (a .dims) (c .if2 .taken))))
+    checked-answer (sym (refused-dims (a .dims) (a .words .now) (bad-high (a .dims) (omega arith))))
 
 words-for-requires : tie.Need-words-for-requires
 words-for-requires c κs = search needs
@@ -45,7 +45,7 @@ shr-if5 c = search needs
 returns-4 : tie.Need-returns-4
 returns-4 c =
     let a = c .before .before .before .before .before .before .before .before .args in
-    checked-answer (sym (last-refused (a .dims) (a .words .now) (some (a .dims) (c .before .before .before .before .before .before .if1 .left)) (omega arith) (c .before .before .before .if3 .left ∙ c .before .before .before .before .words-for .ensures) (c .before .shared-slice-known2 .given (length (a .words .now) - 1) .fits) (some (a .dims % 64) (c .before .before .if4 .taken)) (c .if5 .taken)))
+    checked-answer (sym (last-refused (a .dims) (a .words .now) (some (a .dims) (c .before .before .before .before .before .before .if1 .left)) (omega arith) (c .before .before .before .if3 .left ∙ c .before .before .before .before .words-for .ensures) (c .before .shared-slice-known2 .given (length (a .words .now) - 1) .fits) (omega arith) (c .if5 .taken)))
 
 returns-5 : tie.Need-returns-5
 returns-5 c =

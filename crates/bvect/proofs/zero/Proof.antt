@@ -24,7 +24,7 @@ returns c =
 returns-2 : tie.Need-returns-2
 returns-2 c =
     let a = c .before .before .before .args in
-    refused-writes (a .dims) (wordsOf (a .dims) (λ i. false)) (rw (bad-high (a .dims) (c .if2 .taken)))
+    refused-writes (a .dims) (wordsOf (a .dims) (λ i. false)) (rw (bad-high (a .dims) (omega arith)))
 
 words-for-requires : tie.Need-words-for-requires
 words-for-requires c κs = search needs
