@@ -6,7 +6,9 @@ use crate::show::TOP;
 
 // The answers and the end of the line.
 pub fn answers(dims_a: u32, a: &[u64], dims_b: u32, b: &[u64]) {
-    show::text(b"eq");
+    show::text(b"check_each");
+    show::checked(bit::check_each(dims_a, a, dims_b, b));
+    show::text(b"; eq");
     show::asked(bvect::eq(dims_a, a, dims_b, b));
     show::text(b"; partial_cmp");
     show::ordering(bvect::partial_cmp(dims_a, a, dims_b, b));
