@@ -1,14 +1,14 @@
 -- The bits of one word: of two words put together, counted, and put back into a word. Assumes nothing.
-use Prim.Native.Nat.{ℕ, zero, suc, _+_, _*_, _/_, _%_, _^_, _≤_, _<_}
-use native.Mathlib.Nat.{add-zero, pow-suc, mul-assoc, div-one, div-eq-of-lt, lt-of-lt-of-le}
+use Prim.Native.Nat.{ℕ, zero, suc, _+_, _*_, _/_, _%_, _^_, _<_}
+use native.Mathlib.Nat.{add-zero, pow-suc, mul-assoc, div-one, div-eq-of-lt}
 use native.Mathlib.Omega.{arith}
 use mathlib.Core.Bool.{Bool, true, false}
 use mathlib.Core.Logic.{_⊎_, inl, inr}
-use mathlib.Core.Path.{_≡_, refl, sym, ap, ap₂, _∙_}
+use mathlib.Core.Path.{_≡_, refl, sym, ap, _∙_}
 use lib.Dec.{eqb}
 use lib.Arith.{lt-one}
-use lib.Pow.{shr-shr, pow-mono, pow-pos}
-use lib.Bits.{bitAnd, bitOr, bitXor, and-shr, or-shr, xor-shr, and-mod, or-mod, xor-mod, and-lt, or-lt, xor-lt}
+use lib.Pow.{shr-shr, pow-pos}
+use lib.Bits.{and-shr, or-shr, xor-shr, and-mod, or-mod, xor-mod, and-lt, or-lt, xor-lt}
 use lib.Count.{ones, ones-step}
 use Rattle.places.specs.Below.{one, countBelow}
 use Rattle.places.proofs.Below.{count-first, count-same, one-most}

@@ -1,9 +1,9 @@
 -- What a check answers, and what is known of a vector that passed. Assumes nothing.
-use Prim.Native.Nat.{ℕ, suc, _+_, _-_, _*_, _/_, _%_, _^_, _≤_, _<_}
+use Prim.Native.Nat.{ℕ, _-_, _/_, _%_, _^_, _≤_, _<_}
 use native.Mathlib.Omega.{arith}
 use mathlib.Core.Bool.{Bool, true, false, not, _||_, or-true}
 use mathlib.Core.List.{List}
-use mathlib.Core.Path.{_≡_, refl, sym, ap, _∙_}
+use mathlib.Core.Path.{_≡_, refl}
 use lib.Dec.{ltb, eqb}
 use lib.ListN.{length, getD}
 use borrow.Author.Tests.{eq-eqb, ne-eqb, lt-ltb, le-ltb, eqb-true, eqb-false, ltb-false}
@@ -12,7 +12,7 @@ use Rattle.refusal.specs.declared.Checked.the-variants.{Valid, Refused}
 use Rattle.refusal.proofs.Chains.{refused-valid}
 use Rattle.bit.specs.Bits.{bitAt, wordsFor}
 use Rattle.bit.specs.Calls.{badDims, padded, checkedOf}
-use Rattle.bit.proofs.Vectors.{Clear, clear-padded, padded-clear, last-clear, clear-last}
+use Rattle.bit.proofs.Vectors.{clear-padded, padded-clear, last-clear, clear-last}
 
 -- what a vector that passed is
 pub record Sound (d : ℕ) (ws : List ℕ) : Type 0 where

@@ -1,25 +1,25 @@
 -- Two vectors that passed, put together: what their words have is what their bits have. Assumes nothing.
-use Prim.Native.Nat.{ℕ, _+_, _-_, _*_, _/_, _^_, _≤_, _<_}
+use Prim.Native.Nat.{ℕ, _+_, _*_, _^_, _≤_, _<_}
 use native.Mathlib.Omega.{arith}
-use mathlib.Core.Bool.{Bool, true, false, not, _&&_, and-self}
+use mathlib.Core.Bool.{Bool, true, false, not, and-self}
 use mathlib.Core.List.{List}
-use mathlib.Core.Logic.{_⊎_, inl, inr, ⊎-elim}
+use mathlib.Core.Logic.{⊎-elim}
 use mathlib.Core.Path.{_≡_, refl, sym, ap, _∙_}
-use lib.Dec.{ltb, eqb}
+use lib.Dec.{eqb}
 use lib.ListN.{length, getD}
 use borrow.Author.Tests.{lt-ltb, le-ltb, eqb-true}
 use Rattle.places.specs.Below.{countBelow, listBelow}
-use Rattle.places.proofs.Below.{count-rest, count-same, list-same, length-below, le-or-lt}
+use Rattle.places.proofs.Below.{count-rest, count-same, list-same, le-or-lt}
 use Rattle.refusal.specs.Answers.{refuse}
 use Rattle.refusal.specs.declared.Checked.the-variants.{Valid}
 use Rattle.refusal.proofs.Chains.{refused-valid, next-valid}
-use Rattle.bit.specs.Bits.{bitOf, bitAt, both, meets, join, cut, wordFrom, wordsFor, wordsOf}
+use Rattle.bit.specs.Bits.{bitAt, both, meets, join, cut, wordFrom, wordsOf}
 use Rattle.bit.specs.Calls.{checkedOf, eachOf, pairOf}
 use Rattle.bit.specs.Words.{Alike, onesOf, joins}
 use Rattle.bit.specs.declared.Op.{Op}
 use Rattle.bit.specs.declared.Op.the-variants.{And, Or, Xor}
 use Rattle.bit.proofs.Bits.{join-lt, word-is}
-use Rattle.bit.proofs.Vectors.{bit-past, meets-at}
+use Rattle.bit.proofs.Vectors.{meets-at}
 use Rattle.bit.proofs.Checks.{Sound, sound}
 
 -- two vectors of equal dims that passed

@@ -1,19 +1,19 @@
 -- The bits of a list of words, and what a check has found. Assumes nothing.
-use Prim.Native.Nat.{ℕ, zero, suc, _+_, _-_, _*_, _/_, _%_, _^_, _≤_, _<_}
+use Prim.Native.Nat.{ℕ, _+_, _-_, _*_, _/_, _%_, _^_, _≤_, _<_}
 use native.Mathlib.Nat.{div-lt-iff-lt-mul, lt-of-lt-of-le, one-mul}
 use native.Mathlib.Omega.{arith}
-use mathlib.Core.Bool.{Bool, true, false, not, _&&_, _||_, and-false, true≢false}
+use mathlib.Core.Bool.{Bool, false, _&&_, and-false}
 use mathlib.Core.List.{List}
 use mathlib.Core.Logic.{_⊎_, inl, inr, ⊎-elim}
 use mathlib.Core.Path.{_≡_, refl, sym, ap, ap₂, _∙_}
-use lib.Dec.{leb, ltb, eqb}
+use lib.Dec.{leb, eqb}
 use lib.ListN.{length, getD, List·getD-eq-default}
 use lib.Pow.{shr-shr, pow-mono, pow-pos, shr-le}
 use lib.Count.{ones, ones-le}
-use borrow.Author.Tests.{le-leb, lt-leb, leb-true}
-use Rattle.places.specs.Below.{one, countBelow, anyBelow}
+use borrow.Author.Tests.{le-leb, lt-leb}
+use Rattle.places.specs.Below.{one, countBelow}
 use Rattle.places.proofs.Below.{count-add, count-same, count-most, any-false, any-none, le-or-lt}
-use Rattle.bit.specs.Bits.{bitOf, bitAt, both, meets, join, wordFrom, wordsFor}
+use Rattle.bit.specs.Bits.{bitOf, bitAt, both, meets, join, wordsFor}
 use Rattle.bit.specs.Calls.{padded}
 use Rattle.bit.specs.declared.Op.{Op}
 use Rattle.bit.proofs.Bits.{bit-above, bit-none, bit-join, join-lt, ones-count, word-is, word-clear}

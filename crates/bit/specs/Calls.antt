@@ -1,8 +1,7 @@
 -- What the calls on bit vectors refuse, in their order, and what they answer.
-use Prim.Native.Nat.{ℕ, _+_, _-_, _*_, _≤_, _<_}
-use mathlib.Core.Bool.{Bool, true, false, not, _&&_, _||_}
-use mathlib.Core.List.{List}
-use mathlib.Core.Path.{_≡_}
+use Prim.Native.Nat.{ℕ, _-_, _*_}
+use mathlib.Core.Bool.{Bool, not, _&&_, _||_}
+use mathlib.Core.List.{List, [], _∷_}
 use lib.Dec.{leb, ltb, eqb}
 use lib.ListN.{length}
 use Rattle.places.specs.Below.{anyBelow, countBelow}
@@ -10,8 +9,8 @@ use Rattle.refusal.specs.Numbers.{DIMS, LENGTH, PADDING, DIFFER, ROOM}
 use Rattle.refusal.specs.Answers.{refuse, next, Says, says, Answers, Writes}
 use Rattle.refusal.specs.declared.Checked.{Checked}
 use Rattle.refusal.specs.declared.Checked.the-variants.{Valid, Refused}
-use Rattle.bit.specs.Bits.{bitAt, meets, wordsFor, wordsOf}
 use Rattle.refusal.specs.declared.Written.{Written}
+use Rattle.bit.specs.Bits.{bitAt, meets, wordsFor, wordsOf}
 use Rattle.bit.specs.declared.Op.{Op}
 use Rattle.bit.specs.declared.Op.the-variants.{And, Or}
 use Rattle.bit.specs.declared.Count.{Count}
@@ -50,30 +49,41 @@ roomOf d room = refuse (ltb room (wordsFor d)) ROOM (wordsFor d) Valid
 -- ---- the answers of counts
 
 abbrev pub countSays : Count → Says
-countSays (Ones n) = says 0 0
-countSays (NoCount n p) = says n p
+countSays (Ones n) = says 0 0 (n ∷ [])
+countSays (NoCount n p) = says n p (0 ∷ [])
 
 abbrev pub countOf : ℕ → Checked → Count
 countOf n Valid = Ones n
 countOf n (Refused m p) = NoCount m p
 
 abbrev pub countsSays : Counts → Says
-countsSays (Both m n) = says 0 0
-countsSays (NoCounts n p) = says n p
+countsSays (Both m n) = says 0 0 (m ∷ n ∷ [])
+countsSays (NoCounts n p) = says n p (0 ∷ 0 ∷ [])
 
 abbrev pub countsOf : ℕ → ℕ → Checked → Counts
 countsOf m n Valid = Both m n
 countsOf m n (Refused k p) = NoCounts k p
 
+-- a count of n ones, and two counts
+abbrev pub Tallies : ℕ → Checked → Count → Type 0
+Tallies n = Answers countSays (n ∷ []) (countOf n)
+
+abbrev pub TalliesBoth : ℕ → ℕ → Checked → Counts → Type 0
+TalliesBoth m n = Answers countsSays (m ∷ n ∷ []) (countsOf m n)
+
 -- ---- what the calls promise
+
+-- how many places below dims have a one
+abbrev pub SumsOne : ℕ → List ℕ → Count → Type 0
+SumsOne d a = Tallies (countBelow (bitAt a) d) (checkedOf d a)
 
 -- how many places below dims have a one in the two vectors put together
 abbrev pub Sums : Op → ℕ → List ℕ → ℕ → List ℕ → Count → Type 0
-Sums op d a e b r = Answers countSays (countOf (countBelow (meets op a b) d)) (pairOf d a e b) r
+Sums op d a e b = Tallies (countBelow (meets op a b) d) (pairOf d a e b)
 
 -- the same for AND and for OR
 abbrev pub SumsBoth : ℕ → List ℕ → ℕ → List ℕ → Counts → Type 0
-SumsBoth d a e b r = Answers countsSays (countsOf (countBelow (meets And a b) d) (countBelow (meets Or a b) d)) (pairOf d a e b) r
+SumsBoth d a e b = TalliesBoth (countBelow (meets And a b) d) (countBelow (meets Or a b) d) (pairOf d a e b)
 
 -- the two vectors put together, written to an output
 abbrev pub Combines : Op → ℕ → List ℕ → ℕ → List ℕ → List ℕ → Written → List ℕ → Type 0

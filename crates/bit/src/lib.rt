@@ -7,10 +7,9 @@ ghost use mathlib.Core.Path.{_≡_};
 ghost use mathlib.Core.List.{_++_};
 ghost use Prim.Native.Nat.{_≤_};
 ghost use lib.ListN.{length, drop};
-ghost use Rattle.places.specs.Below.{countBelow};
-ghost use Rattle.refusal.specs.Answers.{Answers, checkedSays, same};
-ghost use Rattle.bit.specs.Bits.{bitAt, wordsFor, join};
-ghost use Rattle.bit.specs.Calls.{checkedOf, eachOf, pairOf, countSays, countOf, Sums, SumsBoth, Combines};
+ghost use Rattle.refusal.specs.Answers.{Checks};
+ghost use Rattle.bit.specs.Bits.{wordsFor, join};
+ghost use Rattle.bit.specs.Calls.{checkedOf, eachOf, pairOf, SumsOne, Sums, SumsBoth, Combines};
 ghost use Rattle.bit.specs.Words.{Alike, onesOf, joins};
 
 // Two bits, or two words bit by bit, put together.
@@ -41,7 +40,7 @@ pub fn words_for(dims: u32) -> usize
 
 // Whether `words` is a bit vector of `dims` bits. Refuses with DIMS, LENGTH, PADDING.
 pub fn check(dims: u32, words: &[u64]) -> Checked
-    ensures { λ r. ⌜ Answers checkedSays same (checkedOf dims (now (words .entry))) r ⌝ }
+    ensures { λ r. ⌜ Checks (checkedOf dims (now (words .entry))) r ⌝ }
 {
     if dims == 0 {
         return Checked::Refused(refusal::DIMS, 0);
@@ -65,7 +64,7 @@ pub fn check(dims: u32, words: &[u64]) -> Checked
 
 // The first refusal of two vectors: left, right.
 pub fn check_each(dims_a: u32, a: &[u64], dims_b: u32, b: &[u64]) -> Checked
-    ensures { λ r. ⌜ Answers checkedSays same (eachOf «dims_a» (now (a .entry)) «dims_b» (now (b .entry))) r ⌝ }
+    ensures { λ r. ⌜ Checks (eachOf «dims_a» (now (a .entry)) «dims_b» (now (b .entry))) r ⌝ }
 {
     if let Checked::Refused(number, place) = check(dims_a, a) {
         return Checked::Refused(number, place);
@@ -75,7 +74,7 @@ pub fn check_each(dims_a: u32, a: &[u64], dims_b: u32, b: &[u64]) -> Checked
 
 // The first refusal of two vectors that have to have equal dims: left, right, DIFFER.
 pub fn check_pair(dims_a: u32, a: &[u64], dims_b: u32, b: &[u64]) -> Checked
-    ensures { λ r. ⌜ Answers checkedSays same (pairOf «dims_a» (now (a .entry)) «dims_b» (now (b .entry))) r ⌝ }
+    ensures { λ r. ⌜ Checks (pairOf «dims_a» (now (a .entry)) «dims_b» (now (b .entry))) r ⌝ }
 {
     if let Checked::Refused(number, place) = check_each(dims_a, a, dims_b, b) {
         return Checked::Refused(number, place);
@@ -173,7 +172,7 @@ fn vector_of(op: Op, dims_a: u32, a: &[u64], dims_b: u32, b: &[u64], out: &mut [
 
 // The number of ones of a. Refuses as `check` does.
 pub fn sum_of_x(dims: u32, a: &[u64]) -> Count
-    ensures { λ r. ⌜ Answers countSays (countOf (countBelow (bitAt (now (a .entry))) dims)) (checkedOf dims (now (a .entry))) r ⌝ }
+    ensures { λ r. ⌜ SumsOne dims (now (a .entry)) r ⌝ }
 {
     if let Checked::Refused(number, place) = check(dims, a) {
         return Count::Refused(number, place);

@@ -5,8 +5,7 @@ use mathlib.Core.List.{List}
 use mathlib.Core.Path.{_≡_, refl, sym, _∙_}
 use lib.Dec.{T, le→leb}
 use lib.IntN.{pos}
-use lib.Ieee.{binary32, ofBits, ofInt, round, units, odd, size, span, climb, inFloat}
-use lib.Count.{trailingZeros}
+use lib.Ieee.{binary32, ofBits, ofInt, inFloat}
 use Rattle.places.specs.Below.{countBelow}
 use Rattle.places.proofs.Below.{count-most}
 use Rattle.refusal.specs.declared.Checked.the-variants.{Valid, Refused}

@@ -2,16 +2,15 @@
 use Prim.Native.Nat.{ℕ, _+_, _-_, _*_, _/_, _%_, _^_, _≤_, _<_}
 use native.Mathlib.Nat.{eq-or-lt-of-le}
 use native.Mathlib.Omega.{arith}
-use mathlib.Core.Bool.{Bool, true, false, false≢true, cond, not, Bool·beq}
-use mathlib.Core.List.{List}
-use mathlib.Core.Logic.{_⊎_, inl, inr, ⊎-elim}
+use mathlib.Core.Bool.{Bool, true, false, false≢true, cond, not}
+use mathlib.Core.List.{List, []}
+use mathlib.Core.Logic.{⊎-elim}
 use mathlib.Core.Path.{_≡_, refl, sym, ap, _∙_}
 use lib.Bits.{bitXor, xor-lt}
 use lib.Count.{trailingZeros}
 use lib.Dec.{eqb}
 use lib.ListN.{length, getD}
 use borrow.Author.Tests.{eq-eqb, ne-eqb, eqb-true}
-use Rattle.places.specs.Search.{firstFrom}
 use Rattle.places.proofs.First.{found, none, before, most, hit}
 use Rattle.places.proofs.Below.{le-or-lt}
 use Rattle.refusal.specs.Answers.{says, orderSays, orderOf}
@@ -26,7 +25,7 @@ use Rattle.bit.proofs.Lowest.{Lowest, trailing-lowest, xor-some}
 use Rattle.bit.proofs.Pairs.{Pair}
 use Rattle.bit.proofs.Vectors.{bit-at}
 use Rattle.bvect.specs.Calls.{Compares}
-use Rattle.bvect.specs.Orders.{lowest, decided, orderBelow, wordOrder, wordsOrder}
+use Rattle.bvect.specs.Orders.{lowest, orderBelow, wordOrder, wordsOrder}
 
 same-bits : (b : Bool) → both Xor b b ≡ false
 same-bits true = refl
@@ -66,11 +65,11 @@ module _ (f g : ℕ → Bool) where
           order-at m (lowest f g d) (omega arith) e earlier ∙ sym (order-at d (lowest f g d) l e earlier)
 
 -- no order is a refusal
-compare-fair : (same : Bool) (f g : ℕ → Bool) (n : ℕ) → orderSays (cond same (orderBelow f g n) Unordered) ≡ says 0 0
+compare-fair : (same : Bool) (f g : ℕ → Bool) (n : ℕ) → orderSays (cond same (orderBelow f g n) Unordered) ≡ says 0 0 []
 compare-fair false f g n = refl
 compare-fair true f g n = go (eqb (lowest f g n) n) (f (lowest f g n))
   where
-    go : (none one : Bool) → orderSays (cond none Equal (cond one Greater Less)) ≡ says 0 0
+    go : (none one : Bool) → orderSays (cond none Equal (cond one Greater Less)) ≡ says 0 0 []
     go true one = refl
     go false true = refl
     go false false = refl

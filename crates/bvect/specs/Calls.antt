@@ -1,21 +1,20 @@
 -- What the calls of `bvect` promise: the tests of each in their order, the answer, and what is left in a lent output.
-use Prim.Native.Nat.{ℕ, _+_, _-_, _*_, _≤_}
-use mathlib.Core.Bool.{Bool, true, false, _&&_, cond}
+use Prim.Native.Nat.{ℕ, _+_, _-_}
+use mathlib.Core.Bool.{false, _&&_, cond}
 use mathlib.Core.List.{List}
 use lib.Dec.{leb, eqb}
 use lib.ListN.{length}
 use Rattle.refusal.specs.Numbers.{DIMS, INDEX, BOUNDS}
-use Rattle.refusal.specs.Answers.{refuse, next, Answers, Writes, distanceSays, distanceOf, askedSays, askedOf, orderSays, orderOf}
+use Rattle.refusal.specs.Answers.{refuse, next, Measures, Asks, Orders, Writes}
 use Rattle.refusal.specs.Bounds.{startOf, endOf, badBounds}
 use Rattle.refusal.specs.declared.Bound.{Bound}
-use Rattle.refusal.specs.declared.Checked.{Checked}
 use Rattle.refusal.specs.declared.Checked.the-variants.{Valid}
 use Rattle.refusal.specs.declared.Written.{Written}
 use Rattle.refusal.specs.declared.Asked.{Asked}
 use Rattle.refusal.specs.declared.Distance.{Distance}
 use Rattle.refusal.specs.declared.Ordering.{Ordering}
 use Rattle.refusal.specs.declared.Ordering.the-variants.{Unordered}
-use Rattle.bit.specs.Bits.{bitAt, wordsFor, wordsOf}
+use Rattle.bit.specs.Bits.{bitAt, wordsOf}
 use Rattle.bit.specs.Calls.{badDims, checkedOf, eachOf, pairOf, roomOf}
 use Rattle.bvect.specs.Orders.{sameWords, orderBelow}
 use Rattle.bvect.specs.Distances.{dotOf, hammingOf, jaccardOf}
@@ -25,16 +24,16 @@ Zeroes d old r left = Writes (refuse (badDims d) DIMS 0 (roomOf d (length old)))
 
 -- "`get` tests its index after the vector", and carries "the index asked"
 abbrev pub Gets : ℕ → List ℕ → ℕ → Asked → Type 0
-Gets d ws i r = Answers askedSays (askedOf (bitAt ws i)) (next (checkedOf d ws) (refuse (leb d i) INDEX i Valid)) r
+Gets d ws i = Asks (bitAt ws i) (next (checkedOf d ws) (refuse (leb d i) INDEX i Valid))
 
 abbrev pub Dots : ℕ → List ℕ → ℕ → List ℕ → Distance → Type 0
-Dots d a e b r = Answers distanceSays (distanceOf (dotOf d a b)) (pairOf d a e b) r
+Dots d a e b = Measures (dotOf d a b) (pairOf d a e b)
 
 abbrev pub Hammings : ℕ → List ℕ → ℕ → List ℕ → Distance → Type 0
-Hammings d a e b r = Answers distanceSays (distanceOf (hammingOf d a b)) (pairOf d a e b) r
+Hammings d a e b = Measures (hammingOf d a b) (pairOf d a e b)
 
 abbrev pub Jaccards : ℕ → List ℕ → ℕ → List ℕ → Distance → Type 0
-Jaccards d a e b r = Answers distanceSays (distanceOf (jaccardOf d a b)) (pairOf d a e b) r
+Jaccards d a e b = Measures (jaccardOf d a b) (pairOf d a e b)
 
 -- "The slice has dims end - start"; "Bits likewise, with clear padding and ceil(dims/64) words of room"
 abbrev pub Cuts : ℕ → List ℕ → Bound → Bound → List ℕ → Written → List ℕ → Type 0
@@ -47,9 +46,8 @@ Cuts d ws from to old r left =
 
 -- "Equality: dims and all words."
 abbrev pub Equals : ℕ → List ℕ → ℕ → List ℕ → Asked → Type 0
-Equals d a e b r = Answers askedSays (askedOf (eqb d e && sameWords a b)) (eachOf d a e b) r
+Equals d a e b = Asks (eqb d e && sameWords a b) (eachOf d a e b)
 
 -- "Bit order: dims differ, no order. Otherwise the position of the lowest differing bit decides"
 abbrev pub Compares : ℕ → List ℕ → ℕ → List ℕ → Ordering → Type 0
-Compares d a e b r =
-    Answers orderSays (orderOf (cond (eqb d e) (orderBelow (bitAt a) (bitAt b) d) Unordered)) (eachOf d a e b) r
+Compares d a e b = Orders (cond (eqb d e) (orderBelow (bitAt a) (bitAt b) d) Unordered) (eachOf d a e b)

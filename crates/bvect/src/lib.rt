@@ -13,7 +13,7 @@ ghost use mathlib.Core.List.{_++_};
 ghost use Prim.Native.Nat.{_≤_, _<_, _*_, _+_, _^_};
 ghost use lib.ListN.{length, drop};
 ghost use Rattle.places.specs.Below.{one, listBelow};
-ghost use Rattle.refusal.specs.Answers.{Answers, checkedSays, same};
+ghost use Rattle.refusal.specs.Answers.{Checks};
 ghost use Rattle.bit.specs.Bits.{bitAt, cut, wordFrom};
 ghost use Rattle.bit.specs.Calls.{checkedOf, Combines};
 ghost use Rattle.bit.specs.Words.{Alike};
@@ -23,7 +23,7 @@ ghost use Rattle.bvect.specs.Orders.{wordOrder, sameWords, wordsOrder, G
 
 // Whether `words` is a bit vector of `dims` bits. Refuses with DIMS, LENGTH, PADDING.
 pub fn new_checked(dims: u32, words: &[u64]) -> Checked
-    ensures { λ r. ⌜ Answers checkedSays same (checkedOf dims (now (words .entry))) r ⌝ }
+    ensures { λ r. ⌜ Checks (checkedOf dims (now (words .entry))) r ⌝ }
 {
     bit::check(dims, words)
 }

@@ -7,7 +7,7 @@ use mathlib.Core.Bool.{Bool, true, false, _||_, or-true, true≢false}
 use mathlib.Core.List.{List, [], _∷_, _++_, append-assoc}
 use mathlib.Core.Logic.{_⊎_, inl, inr, ⊎-elim}
 use native.Mathlib.Decide.{decLe}
-use mathlib.Core.Path.{_≡_, refl, sym, ap, ap₂, _∙_}
+use mathlib.Core.Path.{_≡_, refl, ap₂, _∙_}
 use lib.ListN.{length, getD, set, drop, length-append, length-drop, List·getD-append}
 use lib.Seq.{drop-cons, set-at, getD-at}
 use Rattle.places.specs.Below.{one, countBelow, anyBelow, listBelow}

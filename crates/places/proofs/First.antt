@@ -4,7 +4,7 @@ use native.Mathlib.Nat.{eq-or-lt-of-le}
 use native.Mathlib.Omega.{arith}
 use mathlib.Core.Bool.{Bool, true, false, cond}
 use mathlib.Core.Logic.{⊎-elim}
-use mathlib.Core.Path.{_≡_, refl, sym, ap, _∙_}
+use mathlib.Core.Path.{_≡_, refl}
 use Rattle.places.specs.Search.{firstFrom}
 
 pub found : (t : ℕ → Bool) (m j i : ℕ) → ((k : ℕ) → j ≤ k → k < i → t k ≡ false) → t i ≡ true → j ≤ i → i < j + m → firstFrom t m j ≡ i

@@ -6,8 +6,10 @@ use Rattle.refusal.specs.Answers.{Says, Answers, Writes}
 use Rattle.refusal.specs.declared.Checked.{Checked}
 use Rattle.refusal.specs.declared.Written.{Written}
 
-pub one-answer : {A : Type 0} {saysOf : A → Says} {give : Checked → A} {due : Checked} {r s : A} → Answers saysOf give due r → Answers saysOf give due s → r ≡ s
+pub one-answer : {A : Type 0} {saysOf : A → Says} {values : List ℕ} {give : Checked → A} {due : Checked} {r s : A}
+    → Answers saysOf values give due r → Answers saysOf values give due s → r ≡ s
 one-answer p q = p .answer ∙ sym (q .answer)
 
-pub one-output : {due : Checked} {d : ℕ} {new old : List ℕ} {r s : Written} {left rest : List ℕ} → Writes due d new old r left → Writes due d new old s rest → (r ≡ s) × (left ≡ rest)
+pub one-output : {due : Checked} {d : ℕ} {new old : List ℕ} {r s : Written} {left rest : List ℕ}
+    → Writes due d new old r left → Writes due d new old s rest → (r ≡ s) × (left ≡ rest)
 one-output p q = (one-answer (p .answer) (q .answer), p .output ∙ sym (q .output))

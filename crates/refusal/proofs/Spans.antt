@@ -1,15 +1,14 @@
 -- Which bounds can be cut: two comparisons decide it, since at the largest u32 a start is past every end and an end past every dims.
 -- Assumes nothing.
-use Prim.Native.Nat.{ℕ, _+_, _≤_, _<_, _^_}
+use Prim.Native.Nat.{ℕ, _≤_, _<_}
 use mathlib.Core.Bool.{Bool, true, false, cond, _||_, or-true}
-use mathlib.Core.Path.{_≡_, refl, ap}
+use mathlib.Core.Path.{_≡_, refl}
 use native.Mathlib.Omega.{arith}
-use lib.Dec.{leb, ltb, eqb}
+use lib.Dec.{leb, ltb}
 use borrow.Author.Tests.{le-leb, lt-leb, lt-ltb, le-ltb, ne-eqb, leb-false, ltb-false}
 use Rattle.refusal.specs.Bounds.{startOf, endOf, topStart, topEnd, badBounds, spanOf}
 use Rattle.refusal.specs.declared.Bound.{Bound}
 use Rattle.refusal.specs.declared.Bound.the-variants.{Included, Excluded, Unbounded}
-use Rattle.refusal.specs.declared.Span.{Span}
 use Rattle.refusal.specs.declared.Span.the-variants.{Of, Bad}
 
 pub bad-order : (from to : Bound) (d : ℕ) → endOf d to ≤ startOf from → badBounds from to d ≡ true

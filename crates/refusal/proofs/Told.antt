@@ -1,11 +1,11 @@
 -- An answer that is the due one says the number and place of what the tests found: one law for each kind of answer. Assumes nothing.
 use Prim.Native.Nat.{ℕ}
-use mathlib.Core.Bool.{Bool, true, false}
-use mathlib.Core.List.{List, _++_}
+use mathlib.Core.Bool.{Bool, true, false, cond}
+use mathlib.Core.List.{List, [], _∷_, _++_}
 use mathlib.Core.Path.{_≡_, refl, sym, ap, _∙_}
 use lib.ListN.{length, drop}
 use lib.Ieee.{Float}
-use Rattle.refusal.specs.Answers.{Says, says, Answers, Writes, leaves, same, checkedSays, distanceSays, distanceOf, writtenSays, writtenOf, askedSays, askedOf, orderSays, orderOf}
+use Rattle.refusal.specs.Answers.{Says, says, tells, Answers, Checks, Measures, Asks, Orders, Writes, leaves, same, checkedSays, distanceSays, distanceOf, writtenSays, writtenOf, askedSays, askedOf, orderSays, orderOf}
 use Rattle.refusal.specs.declared.Checked.{Checked}
 use Rattle.refusal.specs.declared.Checked.the-variants.{Valid, Refused}
 use Rattle.refusal.specs.declared.Distance.{Distance}
@@ -15,42 +15,46 @@ use Rattle.refusal.specs.declared.Asked.{Asked}
 use Rattle.refusal.specs.declared.Ordering.{Ordering}
 
 -- any kind of answer whose refusals say what they were given
-pub answered : {A : Type 0} (saysOf : A → Says) (give : Checked → A) → ((due : Checked) → saysOf (give due) ≡ checkedSays due)
-    → {due : Checked} {r : A} → r ≡ give due → Answers saysOf give due r
-answered saysOf give fair {due} e = record { told = ap saysOf e ∙ fair due; answer = e }
+pub answered : {A : Type 0} (saysOf : A → Says) (values : List ℕ) (give : Checked → A) → ((due : Checked) → saysOf (give due) ≡ tells due values)
+    → {due : Checked} {r : A} → r ≡ give due → Answers saysOf values give due r
+answered saysOf values give fair {due} e = record { told = ap saysOf e ∙ fair due; answer = e }
 
-pub checked-answer : {due r : Checked} → r ≡ due → Answers checkedSays same due r
-checked-answer e = answered checkedSays same (λ due. refl) e
+checked-fair : (due : Checked) → checkedSays due ≡ tells due []
+checked-fair Valid = refl
+checked-fair (Refused n p) = refl
 
-distance-fair : (x : Float) (due : Checked) → distanceSays (distanceOf x due) ≡ checkedSays due
+pub checked-answer : {due r : Checked} → r ≡ due → Checks due r
+checked-answer e = answered checkedSays [] same checked-fair e
+
+distance-fair : (x : Float) (due : Checked) → distanceSays (distanceOf x due) ≡ tells due []
 distance-fair x Valid = refl
 distance-fair x (Refused n p) = refl
 
-pub distance-answer : (x : Float) {due : Checked} {r : Distance} → r ≡ distanceOf x due → Answers distanceSays (distanceOf x) due r
-distance-answer x e = answered distanceSays (distanceOf x) (distance-fair x) e
+pub distance-answer : (x : Float) {due : Checked} {r : Distance} → r ≡ distanceOf x due → Measures x due r
+distance-answer x e = answered distanceSays [] (distanceOf x) (distance-fair x) e
 
-written-fair : (d len : ℕ) (due : Checked) → writtenSays (writtenOf d len due) ≡ checkedSays due
+written-fair : (d len : ℕ) (due : Checked) → writtenSays (writtenOf d len due) ≡ tells due (d ∷ len ∷ [])
 written-fair d len Valid = refl
 written-fair d len (Refused n p) = refl
 
-pub written-answer : (d len : ℕ) {due : Checked} {r : Written} → r ≡ writtenOf d len due → Answers writtenSays (writtenOf d len) due r
-written-answer d len e = answered writtenSays (writtenOf d len) (written-fair d len) e
+pub written-answer : (d len : ℕ) {due : Checked} {r : Written} → r ≡ writtenOf d len due → Answers writtenSays (d ∷ len ∷ []) (writtenOf d len) due r
+written-answer d len e = answered writtenSays (d ∷ len ∷ []) (writtenOf d len) (written-fair d len) e
 
-asked-fair : (b : Bool) (due : Checked) → askedSays (askedOf b due) ≡ checkedSays due
+asked-fair : (b : Bool) (due : Checked) → askedSays (askedOf b due) ≡ tells due (cond b 1 0 ∷ [])
 asked-fair true Valid = refl
 asked-fair false Valid = refl
 asked-fair b (Refused n p) = refl
 
-pub asked-answer : (b : Bool) {due : Checked} {r : Asked} → r ≡ askedOf b due → Answers askedSays (askedOf b) due r
-asked-answer b e = answered askedSays (askedOf b) (asked-fair b) e
+pub asked-answer : (b : Bool) {due : Checked} {r : Asked} → r ≡ askedOf b due → Asks b due r
+asked-answer b e = answered askedSays (cond b 1 0 ∷ []) (askedOf b) (asked-fair b) e
 
-order-fair : (o : Ordering) → orderSays o ≡ says 0 0 → (due : Checked) → orderSays (orderOf o due) ≡ checkedSays due
+order-fair : (o : Ordering) → orderSays o ≡ says 0 0 [] → (due : Checked) → orderSays (orderOf o due) ≡ tells due []
 order-fair o done Valid = done
 order-fair o done (Refused n p) = refl
 
 -- an order that is no refusal itself
-pub order-answer : (o : Ordering) → orderSays o ≡ says 0 0 → {due : Checked} {r : Ordering} → r ≡ orderOf o due → Answers orderSays (orderOf o) due r
-order-answer o done e = answered orderSays (orderOf o) (order-fair o done) e
+pub order-answer : (o : Ordering) → orderSays o ≡ says 0 0 [] → {due : Checked} {r : Ordering} → r ≡ orderOf o due → Orders o due r
+order-answer o done e = answered orderSays [] (orderOf o) (order-fair o done) e
 
 -- ---- calls that write
 

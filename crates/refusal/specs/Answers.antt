@@ -1,8 +1,8 @@
 -- What a call answers. The tests of a call stand in one chain, and the first that holds is the refusal. Each kind of answer says which
 -- number and place of document 01 its cases stand for, and what it is where nothing is refused.
 use Prim.Native.Nat.{ℕ}
-use mathlib.Core.Bool.{Bool, true, false, cond}
-use mathlib.Core.List.{List, _++_}
+use mathlib.Core.Bool.{Bool, cond}
+use mathlib.Core.List.{List, [], _∷_, _++_, map}
 use mathlib.Core.Path.{_≡_}
 use lib.ListN.{length, drop}
 use lib.Ieee.{Float}
@@ -30,37 +30,49 @@ next (Refused n p) later = Refused n p
 
 -- ---- an answer in the words of document 01
 
--- the number of an answer and the place it carries; 0 is done, and carries 0
+-- the number of an answer, the place it carries, and its other numbers; 0 is done, and carries 0
 pub record Says : Type 0 where
   pub number : ℕ
   pub place : ℕ
+  pub values : List ℕ
 
-abbrev pub says : ℕ → ℕ → Says
-says n p = record { number = n; place = p }
+abbrev pub says : ℕ → ℕ → List ℕ → Says
+says n p vs = record { number = n; place = p; values = vs }
+
+-- what is to be said where the tests find `due`: "Other numbers beside a refusal are 0"
+abbrev pub tells : Checked → List ℕ → Says
+tells Valid vs = says 0 0 vs
+tells (Refused n p) vs = says n p (map (λ v. 0) vs)
+
+-- ---- what each case of an answer says
 
 abbrev pub checkedSays : Checked → Says
-checkedSays Valid = says 0 0
-checkedSays (Refused n p) = says n p
+checkedSays Valid = says 0 0 []
+checkedSays (Refused n p) = says n p []
 
+-- "a distance call answers a float or a refusal number, never both"
 abbrev pub distanceSays : Distance → Says
-distanceSays (Value x) = says 0 0
-distanceSays (NoDistance n p) = says n p
+distanceSays (Value x) = says 0 0 []
+distanceSays (NoDistance n p) = says n p []
 
+-- the dims and the number of entries written
 abbrev pub writtenSays : Written → Says
-writtenSays (Done d len) = says 0 0
-writtenSays (NotWritten n p) = says n p
+writtenSays (Done d len) = says 0 0 (d ∷ len ∷ [])
+writtenSays (NotWritten n p) = says n p (0 ∷ 0 ∷ [])
 
+-- 1 for yes
 abbrev pub askedSays : Asked → Says
-askedSays Yes = says 0 0
-askedSays No = says 0 0
-askedSays (NotAsked n p) = says n p
+askedSays Yes = says 0 0 (1 ∷ [])
+askedSays No = says 0 0 (0 ∷ [])
+askedSays (NotAsked n p) = says n p (0 ∷ [])
 
+-- an order, or that there is none, is no number
 abbrev pub orderSays : Ordering → Says
-orderSays Less = says 0 0
-orderSays Equal = says 0 0
-orderSays Greater = says 0 0
-orderSays Unordered = says 0 0
-orderSays (NoOrder n p) = says n p
+orderSays Less = says 0 0 []
+orderSays Equal = says 0 0 []
+orderSays Greater = says 0 0 []
+orderSays Unordered = says 0 0 []
+orderSays (NoOrder n p) = says n p []
 
 -- ---- the answer of a call, where its tests find `due`
 
@@ -83,10 +95,26 @@ abbrev pub orderOf : Ordering → Checked → Ordering
 orderOf o Valid = o
 orderOf o (Refused n p) = NoOrder n p
 
--- the call's number and place are those of the first test that holds, and the answer is `give` of what the tests find
-pub record Answers {A : Type 0} (saysOf : A → Says) (give : Checked → A) (due : Checked) (r : A) : Type 0 where
-  pub told : saysOf r ≡ checkedSays due
+-- the answer says what is to be said, with these values where nothing is refused; and it is `give` of what the tests find
+pub record Answers {A : Type 0} (saysOf : A → Says) (values : List ℕ) (give : Checked → A) (due : Checked) (r : A) : Type 0 where
+  pub told : saysOf r ≡ tells due values
   pub answer : r ≡ give due
+
+-- a check that is the due one
+abbrev pub Checks : Checked → Checked → Type 0
+Checks = Answers checkedSays [] same
+
+-- a distance x
+abbrev pub Measures : Float → Checked → Distance → Type 0
+Measures x = Answers distanceSays [] (distanceOf x)
+
+-- yes where b holds
+abbrev pub Asks : Bool → Checked → Asked → Type 0
+Asks b = Answers askedSays (cond b 1 0 ∷ []) (askedOf b)
+
+-- an order
+abbrev pub Orders : Ordering → Checked → Ordering → Type 0
+Orders o = Answers orderSays [] (orderOf o)
 
 -- ---- what a call leaves in a lent output
 
@@ -97,5 +125,5 @@ leaves (Refused n p) new old = old
 
 -- a vector of d places is written as the list `new`
 pub record Writes (due : Checked) (d : ℕ) (new old : List ℕ) (r : Written) (left : List ℕ) : Type 0 where
-  pub answer : Answers writtenSays (writtenOf d (length new)) due r
+  pub answer : Answers writtenSays (d ∷ length new ∷ []) (writtenOf d (length new)) due r
   pub output : left ≡ leaves due new old

@@ -1,6 +1,6 @@
 -- Document 01, "Slices and order": what a pair of bounds means in a vector of d places.
 use Prim.Native.Nat.{ℕ, _+_}
-use mathlib.Core.Bool.{Bool, true, false, cond, _||_}
+use mathlib.Core.Bool.{Bool, false, cond, _||_}
 use lib.Dec.{leb, ltb, eqb}
 use Rattle.refusal.specs.declared.Bound.{Bound}
 use Rattle.refusal.specs.declared.Bound.the-variants.{Included, Excluded, Unbounded}
