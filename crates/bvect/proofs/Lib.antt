@@ -1,4 +1,5 @@
--- Laws of bit vectors: slices, order and distances.
+-- Laws of bit vectors: slices, order, equality and distances.
 pub mod Slices
 pub mod Orders
+pub mod Equality
 pub mod Counts
