@@ -4,6 +4,7 @@
 ghost use mathlib.Core.Path.{_≡_};
 ghost use Rattle.refusal.specs.Bounds.{startOf, endOf, spanOf};
 
+// When each is given, and the place it carries, is said in specs/Numbers.antt.
 pub const DONE: u32 = 0;
 
 pub const DIMS: u32 = 1;
