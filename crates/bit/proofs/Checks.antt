@@ -70,7 +70,8 @@ module _ (d : ℕ) (ws : List ℕ) where
 
   -- the test of the last word decides the padding
   module _ (l : 1 ≤ d) (h : d ≤ 65535) (e : length ws ≡ wordsFor d) where
-    pub last-refused : getD ws (length ws - 1) 0 < 2 ^ 64 → 0 < d % 64 → (getD ws (length ws - 1) 0 / 2 ^ (d % 64) ≡ 0 → ⊥) → checkedOf d ws ≡ Refused 6 (length ws - 1)
+    pub last-refused : getD ws (length ws - 1) 0 < 2 ^ 64 → 0 < d % 64 → (getD ws (length ws - 1) 0 / 2 ^ (d % 64) ≡ 0 → ⊥)
+        → checkedOf d ws ≡ Refused 6 (length ws - 1)
     last-refused fits part set = refused-padding l h e (go (padded d ws) refl)
       where
         go : (b : Bool) → padded d ws ≡ b → padded d ws ≡ true

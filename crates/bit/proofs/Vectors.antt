@@ -11,7 +11,7 @@ use lib.ListN.{length, getD, List·getD-eq-default}
 use lib.Pow.{shr-shr, pow-mono, pow-pos, shr-le}
 use lib.Count.{ones, ones-le}
 use borrow.Author.Tests.{le-leb, lt-leb}
-use Rattle.places.specs.Below.{one, countBelow}
+use Rattle.places.specs.Below.{countBelow}
 use Rattle.places.proofs.Below.{count-add, count-same, count-most, any-false, any-none, le-or-lt}
 use Rattle.bit.specs.Bits.{bitOf, bitAt, both, meets, join, wordsFor}
 use Rattle.bit.specs.Calls.{padded}
@@ -47,12 +47,30 @@ count-word op a b j ha hb =
     ∙ sym (ones-count 64 w (join-lt op 64 (getD a j 0) (getD b j 0) ha hb)))
 
 pub count-step : (op : Op) (a b : List ℕ) (j n w : ℕ) → getD a j 0 < 2 ^ 64 → getD b j 0 < 2 ^ 64
-    → n ≡ countBelow (meets op a b) (64 * j) → w ≡ join op (getD a j 0) (getD b j 0) → n + ones w ≡ countBelow (meets op a b) (64 * (j + 1))
+    → n ≡ countBelow (meets op a b) (64 * j) → w ≡ join op (getD a j 0) (getD b j 0)
+    → n + ones w ≡ countBelow (meets op a b) (64 * (j + 1))
 count-step op a b j n w ha hb e f = ap₂ (λ (x y : ℕ). x + ones y) e f ∙ sym (count-word op a b j ha hb)
 
 -- the count so far, and that of one word more, fit
 pub count-fits : (t : ℕ → Bool) (j n w : ℕ) → n ≡ countBelow t (64 * j) → j ≤ 1024 → w < 2 ^ 64 → n + ones w < 2 ^ 32
 count-fits t j n w e h l = omega (arith, count-most t (64 * j), ones-le 64 w l)
+
+-- n is the number of ones in the first j words put together, 64 places each
+pub record FirstOnes (op : Op) (a b : List ℕ) (j n : ℕ) : Type 0 where
+  pub count : n ≡ countBelow (meets op a b) (64 * j)
+
+pub ones-none : {op : Op} {a b : List ℕ} → FirstOnes op a b 0 0
+unfolding countBelow
+ones-none = record { count = refl }
+
+-- one word more
+pub ones-more : {op : Op} {a b : List ℕ} {j n w : ℕ} → FirstOnes op a b j n → getD a j 0 < 2 ^ 64 → getD b j 0 < 2 ^ 64
+    → w ≡ join op (getD a j 0) (getD b j 0) → FirstOnes op a b (j + 1) (n + ones w)
+ones-more {op} {a} {b} {j} {n} {w} s ha hb e = record { count = count-step op a b j n w ha hb (s .count) e }
+
+-- and the sum fits
+pub ones-fit : {op : Op} {a b : List ℕ} {j n : ℕ} (w : ℕ) → FirstOnes op a b j n → j ≤ 1024 → w < 2 ^ 64 → n + ones w < 2 ^ 32
+ones-fit {op} {a} {b} {j} {n} w s h l = count-fits (meets op a b) j n w (s .count) h l
 
 -- ---- the padding
 
@@ -94,7 +112,14 @@ clear-padded d ws h = any-none (λ i. leb d i && bitAt ws i) (64 * length ws) (�
 
 pub padded-clear : (d : ℕ) (ws : List ℕ) → padded d ws ≡ false → Clear d ws
 unfolding padded
-padded-clear d ws e = record { clear = λ i above. ⊎-elim (bit-past ws i) (λ inside. go i above (any-false (λ j. leb d j && bitAt ws j) (64 * length ws) i e inside)) (le-or-lt (64 * length ws) i) }
+padded-clear d ws e =
+    record {
+      clear = λ i above.
+          ⊎-elim
+          (bit-past ws i)
+          (λ inside. go i above (any-false (λ j. leb d j && bitAt ws j) (64 * length ws) i e inside))
+          (le-or-lt (64 * length ws) i);
+    }
   where
     go : (i : ℕ) → d ≤ i → (leb d i && bitAt ws i) ≡ false → bitAt ws i ≡ false
     go i above q = rw (le-leb d i above) at q
@@ -110,7 +135,8 @@ module _ (d : ℕ) (ws : List ℕ) (pos : 1 ≤ d) (long : length ws ≡ wordsFo
           let q : i / 64 ≡ length ws - 1 = omega arith in
           rw q (high-clear (getD ws (length ws - 1) 0) (d % 64) (i % 64) (e (omega arith)) (omega arith))
 
-  pub clear-last : getD ws (length ws - 1) 0 < 2 ^ 64 → 0 < d % 64 → Clear d ws → getD ws (length ws - 1) 0 / 2 ^ (d % 64) ≡ 0
+  pub clear-last : getD ws (length ws - 1) 0 < 2 ^ 64 → 0 < d % 64 → Clear d ws
+      → getD ws (length ws - 1) 0 / 2 ^ (d % 64) ≡ 0
   clear-last fits part c =
       high-none (getD ws (length ws - 1) 0) (d % 64) fits
       (λ k low high. sym (bit-at ws (length ws - 1) k high) ∙ c .clear (64 * (length ws - 1) + k) (omega arith))

@@ -39,13 +39,24 @@ module _ (d : ℕ) (a : List ℕ) (e : ℕ) (b : List ℕ) where
     pub counted : {n : ℕ} → r ≡ Ones n → (pairOf d a e b ≡ Valid) × (n ≡ countBelow (meets op a b) d)
     counted {n} told = count-done (countBelow (meets op a b) d) n (pairOf d a e b) (sym (s .answer) ∙ told)
 
+    -- and a float exactly
+    pub counted-float : {n : ℕ} → r ≡ Ones n → T (inFloat binary32 (pos n))
+    counted-float told = let k = counted told in rw (k .1) (count-float op (k .0))
+
     pub not-counted : {n p : ℕ} → r ≡ NoCount n p → pairOf d a e b ≡ Refused n p
     not-counted {n} {p} told = count-refused (countBelow (meets op a b) d) n p (pairOf d a e b) (sym (s .answer) ∙ told)
 
   module _ {r : Counts} (s : SumsBoth d a e b r) where
-    pub both-counted : {m n : ℕ} → r ≡ Both m n → (pairOf d a e b ≡ Valid) × (m ≡ countBelow (meets And a b) d) × (n ≡ countBelow (meets Or a b) d)
+    pub both-counted : {m n : ℕ} → r ≡ Both m n
+        → (pairOf d a e b ≡ Valid) × (m ≡ countBelow (meets And a b) d) × (n ≡ countBelow (meets Or a b) d)
     both-counted {m} {n} told =
         counts-done (countBelow (meets And a b) d) (countBelow (meets Or a b) d) m n (pairOf d a e b) (sym (s .answer) ∙ told)
+
+    -- and floats exactly
+    pub both-float : {m n : ℕ} → r ≡ Both m n → T (inFloat binary32 (pos m)) × T (inFloat binary32 (pos n))
+    both-float told =
+        let k = both-counted told in
+        (rw (k .1) (count-float And (k .0)), rw (k .2) (count-float Or (k .0)))
 
     pub not-both-counted : {n p : ℕ} → r ≡ NoCounts n p → pairOf d a e b ≡ Refused n p
     not-both-counted {n} {p} told =

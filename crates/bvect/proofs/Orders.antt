@@ -12,7 +12,7 @@ use lib.Dec.{eqb}
 use lib.ListN.{length, getD}
 use borrow.Author.Tests.{eq-eqb, ne-eqb, eqb-true}
 use Rattle.places.proofs.First.{found, none, before, most, hit}
-use Rattle.places.proofs.Below.{le-or-lt}
+use Rattle.places.proofs.Below.{le-or-lt, any-none, any-true}
 use Rattle.refusal.specs.Answers.{says, orderSays, orderOf}
 use Rattle.refusal.proofs.Told.{order-answer}
 use Rattle.refusal.specs.declared.Ordering.{Ordering}
@@ -25,7 +25,7 @@ use Rattle.bit.proofs.Lowest.{Lowest, trailing-lowest, xor-some}
 use Rattle.bit.proofs.Pairs.{Pair}
 use Rattle.bit.proofs.Vectors.{bit-at}
 use Rattle.bvect.specs.Calls.{Compares}
-use Rattle.bvect.specs.Orders.{lowest, orderBelow, wordOrder, wordsOrder}
+use Rattle.bvect.specs.Orders.{lowest, orderBelow, wordOrder, wordsOrder, sameWords}
 
 same-bits : (b : Bool) → both Xor b b ≡ false
 same-bits true = refl
@@ -36,7 +36,8 @@ module _ (f g : ℕ → Bool) where
   differs i = both Xor (f i) (g i)
 
   -- a lowest differing place decides
-  pub order-at : (n i : ℕ) → i < n → differs i ≡ true → ((k : ℕ) → k < i → differs k ≡ false) → orderBelow f g n ≡ cond (f i) Greater Less
+  pub order-at : (n i : ℕ) → i < n → differs i ≡ true → ((k : ℕ) → k < i → differs k ≡ false)
+      → orderBelow f g n ≡ cond (f i) Greater Less
   order-at n i h e all =
       let l : lowest f g n ≡ i = found differs n 0 i (λ k a b. all k b) e (omega arith) (omega arith) in
       rw (l, ne-eqb i n (λ q. omega arith))
@@ -81,7 +82,20 @@ same-word : (a b : List ℕ) (k : ℕ) → getD a (k / 64) 0 ≡ getD b (k / 64)
 unfolding bitAt
 same-word a b k e = rw e (same-bits (bitOf (getD b (k / 64) 0) (k % 64)))
 
-pub words-equal : (a b : List ℕ) → ((j : ℕ) → j < length a → getD a j 0 ≡ getD b j 0) → wordsOrder a b ≡ Equal
+-- the first n words are the same
+abbrev pub SameFirst : List ℕ → List ℕ → ℕ → Type 0
+SameFirst a b n = (j : ℕ) → j < n → getD a j 0 ≡ getD b j 0
+
+pub words-same : (a b : List ℕ) → SameFirst a b (length a) → sameWords a b ≡ true
+words-same a b same =
+    ap not
+    (any-none (λ j. not (eqb (getD a j 0) (getD b j 0))) (length a) (λ j h. ap not (eq-eqb (getD a j 0) (getD b j 0) (same j h))))
+
+pub words-differ : (a b : List ℕ) (i : ℕ) → i < length a → (getD a i 0 ≡ getD b i 0 → ⊥) → sameWords a b ≡ false
+words-differ a b i h other =
+    ap not (any-true (λ j. not (eqb (getD a j 0) (getD b j 0))) (length a) i h (ap not (ne-eqb (getD a i 0) (getD b i 0) other)))
+
+pub words-equal : (a b : List ℕ) → SameFirst a b (length a) → wordsOrder a b ≡ Equal
 words-equal a b same = order-none (bitAt a) (bitAt b) (64 * length a) (λ k l. same-word a b k (same (k / 64) (omega arith)))
 
 module _ (x y : ℕ) (hx : x < 2 ^ 64) (hy : y < 2 ^ 64) (other : x ≡ y → ⊥) where
@@ -107,7 +121,8 @@ module _ (x y : ℕ) (hx : x < 2 ^ 64) (hy : y < 2 ^ 64) (other : x ≡ y → �
   unfolding bitOf
   word-less h = go (bitOf x (trailingZeros 64 (bitXor x y))) refl first-differs
     where
-      go : (b : Bool) → bitOf x (trailingZeros 64 (bitXor x y)) ≡ b → both Xor b (bitOf y (trailingZeros 64 (bitXor x y))) ≡ true → wordOrder x y ≡ Less
+      go : (b : Bool) → bitOf x (trailingZeros 64 (bitXor x y)) ≡ b → both Xor b (bitOf y (trailingZeros 64 (bitXor x y))) ≡ true
+          → wordOrder x y ≡ Less
       go false e q = rw (word-decides, e)
       go true e q =
           let one : x / 2 ^ trailingZeros 64 (bitXor x y) % 2 ≡ 1 = eqb-true (x / 2 ^ trailingZeros 64 (bitXor x y) % 2) 1 e in
@@ -125,7 +140,7 @@ module _ (a b : List ℕ) (i : ℕ) (hx : getD a i 0 < 2 ^ 64) (hy : getD b i 0 
   in-word : (k : ℕ) → k < 64 → differs (bitAt a) (bitAt b) (64 * i + k) ≡ differs (bitOf (getD a i 0)) (bitOf (getD b i 0)) k
   in-word k l = rw (bit-at a i k l, bit-at b i k l)
 
-  earlier-bits : ((j : ℕ) → j < i → getD a j 0 ≡ getD b j 0) → (k : ℕ) → k < 64 * i + lowestBit → differs (bitAt a) (bitAt b) k ≡ false
+  earlier-bits : SameFirst a b i → (k : ℕ) → k < 64 * i + lowestBit → differs (bitAt a) (bitAt b) k ≡ false
   earlier-bits same k l =
       ⊎-elim
       (λ past.
@@ -135,7 +150,7 @@ module _ (a b : List ℕ) (i : ℕ) (hx : getD a i 0 < 2 ^ 64) (hy : getD b i 0 
       (λ inside. same-word a b k (same (k / 64) (omega arith)))
       (le-or-lt (64 * i) k)
 
-  pub words-decide : i < length a → ((j : ℕ) → j < i → getD a j 0 ≡ getD b j 0) → wordsOrder a b ≡ wordOrder (getD a i 0) (getD b i 0)
+  pub words-decide : i < length a → SameFirst a b i → wordsOrder a b ≡ wordOrder (getD a i 0) (getD b i 0)
   words-decide h same =
       order-at (bitAt a) (bitAt b) (64 * length a) (64 * i + lowestBit) (omega (arith, low-bit .inside))
       (in-word lowestBit (low-bit .inside) ∙ first-differs (getD a i 0) (getD b i 0) hx hy other)
@@ -146,7 +161,11 @@ module _ (a b : List ℕ) (i : ℕ) (hx : getD a i 0 < 2 ^ 64) (hy : getD b i 0 
 -- the padding decides nothing
 pub order-dims : {d e : ℕ} {a b : List ℕ} → Pair d a e b → orderBelow (bitAt a) (bitAt b) d ≡ wordsOrder a b
 order-dims {d} {a = a} {b} p =
-    sym (order-rest (bitAt a) (bitAt b) d (64 * length a) (omega (arith, p .left .long)) (λ k h l. rw (p .left .clear k h, p .right .clear k h)))
+    sym
+    (order-rest (bitAt a) (bitAt b) d (64 * length a) (omega (arith, p .left .long))
+    (λ k h l. rw (p .left .clear k h, p .right .clear k h)))
 
-pub compares : (d : ℕ) (a : List ℕ) (e : ℕ) (b : List ℕ) {r : Ordering} → r ≡ orderOf (cond (eqb d e) (orderBelow (bitAt a) (bitAt b) d) Unordered) (eachOf d a e b) → Compares d a e b r
-compares d a e b q = order-answer (cond (eqb d e) (orderBelow (bitAt a) (bitAt b) d) Unordered) (compare-fair (eqb d e) (bitAt a) (bitAt b) d) q
+pub compares : (d : ℕ) (a : List ℕ) (e : ℕ) (b : List ℕ) {r : Ordering}
+    → r ≡ orderOf (cond (eqb d e) (orderBelow (bitAt a) (bitAt b) d) Unordered) (eachOf d a e b) → Compares d a e b r
+compares d a e b q =
+    order-answer (cond (eqb d e) (orderBelow (bitAt a) (bitAt b) d) Unordered) (compare-fair (eqb d e) (bitAt a) (bitAt b) d) q

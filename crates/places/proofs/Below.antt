@@ -7,7 +7,7 @@ use mathlib.Core.Bool.{Bool, true, false, _||_, or-true, true≢false}
 use mathlib.Core.List.{List, [], _∷_, _++_, append-assoc}
 use mathlib.Core.Logic.{_⊎_, inl, inr, ⊎-elim}
 use native.Mathlib.Decide.{decLe}
-use mathlib.Core.Path.{_≡_, refl, ap₂, _∙_}
+use mathlib.Core.Path.{_≡_, refl, ap, ap₂, _∙_}
 use lib.ListN.{length, getD, set, drop, length-append, length-drop, List·getD-append}
 use lib.Seq.{drop-cons, set-at, getD-at}
 use Rattle.places.specs.Below.{one, countBelow, anyBelow, listBelow}
@@ -111,10 +111,32 @@ list-same f g zero same = refl
 list-same f g (suc n) same = rw (list-same f g n (λ i h. same i (omega arith)), same n (omega arith))
 
 -- a store at the end of what was stored
-pub store {ℓ} : {A : Type ℓ} (f : ℕ → A) (old : List A) (n : ℕ) → n < length old → set (listBelow f n ++ drop n old) n (f n) ≡ listBelow f (n + 1) ++ drop (n + 1) old
+pub store {ℓ} : {A : Type ℓ} (f : ℕ → A) (old : List A) (n : ℕ) → n < length old
+    → set (listBelow f n ++ drop n old) n (f n) ≡ listBelow f (n + 1) ++ drop (n + 1) old
 unfolding listBelow
-store f old n h = rw (add-one, drop-cons old n (f n) h, set-at (listBelow f n) (getD old n (f n)) (drop (suc n) old) (f n) n (length-below f n), append-assoc)
+store f old n h =
+    rw
+    (add-one, drop-cons old n (f n) h, set-at (listBelow f n) (getD old n (f n)) (drop (suc n) old) (f n) n (length-below f n), append-assoc)
 
 -- what was stored, in front of what is left, is as long as what was there
-pub written-length {ℓ} : {A : Type ℓ} (f : ℕ → A) (n : ℕ) (old : List A) → n ≤ length old → length (listBelow f n ++ drop n old) ≡ length old
+pub written-length {ℓ} : {A : Type ℓ} (f : ℕ → A) (n : ℕ) (old : List A) → n ≤ length old
+    → length (listBelow f n ++ drop n old) ≡ length old
 written-length f n old h = rw (length-append, length-below, length-drop) (omega arith)
+
+-- ---- a loop that writes f: `new` has f at the first n places, and after them what `old` has there
+pub record Wrote {ℓ} {A : Type ℓ} (f : ℕ → A) (old new : List A) (n : ℕ) : Type ℓ where
+  pub room : n ≤ length old
+  pub front : new ≡ listBelow f n ++ drop n old
+
+pub wrote-none {ℓ} : {A : Type ℓ} {f : ℕ → A} {old : List A} → Wrote f old old 0
+unfolding listBelow
+wrote-none = record { room = omega arith; front = refl }
+
+-- one store more
+pub wrote-more {ℓ} : {A : Type ℓ} {f : ℕ → A} {old new : List A} {n : ℕ} {v : A} → Wrote f old new n → n < length old → v ≡ f n
+    → Wrote f old (set new n v) (n + 1)
+wrote-more {f = f} {old} {n = n} w h e = record { room = omega arith; front = rw (w .front, e) (store f old n h) }
+
+-- the stores leave the length
+pub wrote-length {ℓ} : {A : Type ℓ} {f : ℕ → A} {old new : List A} {n : ℕ} → Wrote f old new n → length new ≡ length old
+wrote-length {f = f} {old} {n = n} w = ap length (w .front) ∙ written-length f n old (w .room)

@@ -51,6 +51,7 @@ unfolding firstFrom
 hit t zero j h = absurd (omega arith)
 hit t (suc m) j h = go (t j) refl h (hit t m (suc j))
   where
-    go : (b : Bool) → t j ≡ b → cond b j (firstFrom t m (suc j)) < j + suc m → (firstFrom t m (suc j) < suc j + m → t (firstFrom t m (suc j)) ≡ true) → t (cond b j (firstFrom t m (suc j))) ≡ true
+    go : (b : Bool) → t j ≡ b → cond b j (firstFrom t m (suc j)) < j + suc m
+        → (firstFrom t m (suc j) < suc j + m → t (firstFrom t m (suc j)) ≡ true) → t (cond b j (firstFrom t m (suc j))) ≡ true
     go true e l rest = e
     go false e l rest = rest (omega arith)

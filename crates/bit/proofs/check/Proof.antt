@@ -1,31 +1,35 @@
 -- `bit::check` meets its contract: dims, then the number of words, then the last word, whose bits from dims on are the padding. Assumes nothing.
 use borrow.Author.Needs.{needs}
 use native.Mathlib.Omega.{arith}
-use Prim.Native.Nat.{_-_, _%_}
-use mathlib.Core.Path.{sym, _∙_}
+use Prim.Native.Nat.{_-_, _≤_}
+use mathlib.Core.Path.{_≡_, sym, _∙_}
 use lib.ListN.{length}
 use Rattle.refusal.proofs.Told.{checked-answer}
+use Rattle.bit.specs.Bits.{wordsFor}
 use Rattle.bit.proofs.Checks.{some, bad-zero, bad-high, refused-dims, refused-length, last-refused, last-valid}
 use Rattle.bit.proofs.check.Statement.{statement}
 use Rattle.bit.proofs.check.Tie as tie
 
+-- where the number of words passed, dims did
+low : (c : tie.Else3) → 1 ≤ c .before .before .before .before .before .args .dims
+low c = some _ (c .before .before .before .if1 .left)
+
+long : (c : tie.Else3) → let a = c .before .before .before .before .before .args in length (a .words .now) ≡ wordsFor (a .dims)
+long c = c .if3 .left ∙ c .before .words-for .ensures
+
 returns : tie.Need-returns
-returns c =
-    let a = c .before .before .args in
-    checked-answer (sym (refused-dims (a .dims) (a .words .now) (bad-zero (a .dims) (c .if1 .taken))))
+returns c = checked-answer (sym (refused-dims _ _ (bad-zero _ (c .if1 .taken))))
 
 returns-2 : tie.Need-returns-2
-returns-2 c =
-    let a = c .before .before .before .args in
-    checked-answer (sym (refused-dims (a .dims) (a .words .now) (bad-high (a .dims) (omega arith))))
+returns-2 c = checked-answer (sym (refused-dims _ _ (bad-high (c .before .before .before .args .dims) (omega arith))))
 
 words-for-requires : tie.Need-words-for-requires
 words-for-requires c κs = search needs
 
 returns-3 : tie.Need-returns-3
 returns-3 c =
-    let a = c .before .before .before .before .before .args in
-    checked-answer (sym (refused-length (a .dims) (a .words .now) (some (a .dims) (c .before .before .before .if1 .left)) (omega arith) (λ e. c .if3 .taken (e ∙ sym (c .before .words-for .ensures)))))
+    let n = c .before .words-for .ensures in
+    checked-answer (sym (refused-length _ _ (some _ (c .before .before .before .if1 .left)) (omega arith) (λ e. c .if3 .taken (e ∙ sym n))))
 
 sub-last : tie.Need-sub-last
 sub-last c = search needs
@@ -44,18 +48,19 @@ shr-if5 c = search needs
 
 returns-4 : tie.Need-returns-4
 returns-4 c =
-    let a = c .before .before .before .before .before .before .before .before .args in
-    checked-answer (sym (last-refused (a .dims) (a .words .now) (some (a .dims) (c .before .before .before .before .before .before .if1 .left)) (omega arith) (c .before .before .before .if3 .left ∙ c .before .before .before .before .words-for .ensures) (c .before .shared-slice-known2 .given (length (a .words .now) - 1) .fits) (omega arith) (c .if5 .taken)))
+    let t = c .before .before .before in
+    let fits = c .before .shared-slice-known2 .given (length (t .before .before .before .before .before .args .words .now) - 1) .fits in
+    checked-answer (sym (last-refused _ _ (low t) (omega arith) (long t) fits (omega arith) (c .if5 .taken)))
 
 returns-5 : tie.Need-returns-5
 returns-5 c =
-    let a = c .before .before .before .before .before .before .before .before .args in
-    checked-answer (sym (last-valid (a .dims) (a .words .now) (some (a .dims) (c .before .before .before .before .before .before .if1 .left)) (omega arith) (c .before .before .before .if3 .left ∙ c .before .before .before .before .words-for .ensures) (λ p. c .if5 .left)))
+    let t = c .before .before .before in
+    checked-answer (sym (last-valid _ _ (low t) (omega arith) (long t) (λ p. c .if5 .left)))
 
 returns-6 : tie.Need-returns-6
 returns-6 c =
-    let a = c .before .before .before .before .before .before .args in
-    checked-answer (sym (last-valid (a .dims) (a .words .now) (some (a .dims) (c .before .before .before .before .if1 .left)) (omega arith) (c .before .if3 .left ∙ c .before .before .words-for .ensures) (λ p. absurd (omega arith))))
+    let t = c .before in
+    checked-answer (sym (last-valid _ _ (low t) (omega arith) (long t) (λ p. absurd (omega arith))))
 
 pub check-spec : {M : Type 1} → statement M
 check-spec =

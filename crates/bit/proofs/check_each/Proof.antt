@@ -21,7 +21,9 @@ check-requires-2 : tie.Need-check-requires-2
 check-requires-2 c κs = search needs
 
 returns-2 : tie.Need-returns-2
-returns-2 c = checked-answer (rw (sym (c .before .before .before .check .ensures .answer) ∙ c .before .enum-told .given .1) (c .check2 .ensures .answer))
+returns-2 c =
+    let passed = sym (c .before .before .before .check .ensures .answer) ∙ c .before .enum-told .given .1 in
+    checked-answer (rw passed (c .check2 .ensures .answer))
 
 pub check-each-spec : {M : Type 1} → statement M
 check-each-spec =

@@ -1,10 +1,20 @@
 -- `bit::check_pair` meets its contract: the refusal of one of the two, or else DIFFER where the dims do. Assumes nothing.
 use borrow.Author.Tests.{eq-eqb, ne-eqb}
 use borrow.Author.Needs.{needs}
-use mathlib.Core.Path.{sym, _∙_}
+use native.Mathlib.Omega.{arith}
+use mathlib.Core.Path.{_≡_, sym, _∙_}
+use Rattle.refusal.specs.declared.Checked.the-variants.{Valid}
 use Rattle.refusal.proofs.Told.{checked-answer}
+use Rattle.bit.specs.Calls.{eachOf}
 use Rattle.bit.proofs.check_pair.Statement.{statement}
 use Rattle.bit.proofs.check_pair.Tie as tie
+
+abbrev start : tie.After-enum-told → tie.Start
+start c = c .before .before .before .before .before
+
+-- each vector passed its tests
+passed : (c : tie.After-enum-told) → let a = start c .args in eachOf (a .dims-a) (a .a .now) (a .dims-b) (a .b .now) ≡ Valid
+passed c = sym (c .before .before .check-each .ensures .answer) ∙ c .enum-told .given .1
 
 check-each-requires : tie.Need-check-each-requires
 check-each-requires c κs = search needs
@@ -20,15 +30,13 @@ enum-told c = search needs
 
 returns-2 : tie.Need-returns-2
 returns-2 c =
-    let a = c .before .before .before .before .before .before .args in
-    let passed = sym (c .before .before .before .check-each .ensures .answer) ∙ c .before .enum-told .given .1 in
-    checked-answer (rw (passed, ne-eqb (a .dims-a) (a .dims-b) (c .if1 .taken)))
+    let a = start (c .before) .args in
+    checked-answer (rw (passed (c .before), ne-eqb (a .dims-a) (a .dims-b) (λ e. omega arith)))
 
 returns-3 : tie.Need-returns-3
 returns-3 c =
-    let a = c .before .before .before .before .before .before .args in
-    let passed = sym (c .before .before .before .check-each .ensures .answer) ∙ c .before .enum-told .given .1 in
-    checked-answer (rw (passed, eq-eqb (a .dims-a) (a .dims-b) (c .if1 .left)))
+    let a = start (c .before) .args in
+    checked-answer (rw (passed (c .before), eq-eqb (a .dims-a) (a .dims-b) (omega arith)))
 
 pub check-pair-spec : {M : Type 1} → statement M
 check-pair-spec =

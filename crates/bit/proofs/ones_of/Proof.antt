@@ -2,24 +2,21 @@
 -- The measure is the number of words left. Assumes nothing.
 use borrow.Author.Needs.{needs}
 use native.Mathlib.Omega.{arith}
-use Prim.Native.Nat.{_-_, _*_, _≤_}
+use Prim.Native.Nat.{_-_, _≤_}
 use mathlib.Core.Path.{_≡_}
 use lib.ListN.{length}
-use Rattle.places.specs.Below.{countBelow}
-use Rattle.bit.specs.Bits.{meets}
-use Rattle.bit.proofs.Vectors.{count-step, count-fits}
+use Rattle.bit.proofs.Vectors.{FirstOnes, ones-none, ones-more, ones-fit}
 use Rattle.bit.proofs.ones_of.Statement.{statement}
 use Rattle.bit.proofs.ones_of.Tie as tie
 
 abbrev Inv-loop : tie.InvT-loop
-Inv-loop op a b n₀ i₀ n i = (i ≤ length a) × (n ≡ countBelow (meets op a b) (64 * i))
+Inv-loop op a b n₀ i₀ n i = (i ≤ length a) × FirstOnes op a b i n
 
 abbrev μ-loop : tie.MeasureT-loop
 μ-loop op a b n₀ i₀ n i = length a - i
 
 loop-holds : tie.Need-loop-holds Inv-loop μ-loop
-unfolding countBelow
-loop-holds c = search needs
+loop-holds c = (omega arith, ones-none)
 
 mul-joined : tie.Need-mul-joined Inv-loop μ-loop
 mul-joined c = search needs
@@ -37,10 +34,7 @@ joined-requires : tie.Need-joined-requires Inv-loop μ-loop
 joined-requires c κs = search needs
 
 add-n : tie.Need-add-n Inv-loop μ-loop
-add-n c =
-    let a = c .before .before .before .before .before .before .before .args in
-    let l = c .before .before .before .before .loop in
-    record { fits = count-fits (meets (a .op) (a .a .now) (a .b .now)) (l .i) (l .n) (c .joined .result) (l .inv .1) (omega arith) (omega arith) }
+add-n c = record { fits = ones-fit (c .joined .result) (c .before .before .before .before .loop .inv .1) (omega arith) (omega arith) }
 
 add-i : tie.Need-add-i Inv-loop μ-loop
 add-i c = search needs
@@ -50,16 +44,15 @@ loop-less c = search needs
 
 loop-again : tie.Need-loop-again Inv-loop μ-loop
 loop-again c =
-    let a = c .before .before .before .before .before .before .before .args in
-    let l = c .before .before .before .before .loop in (
-      omega arith,
-      count-step (a .op) (a .a .now) (a .b .now) (l .i) (l .n) (c .joined .result) (c .before .before .shared-slice-known3 .given (l .i) .fits) (c .before .shared-slice-known4 .given (l .i) .fits) (l .inv .1) (c .joined .ensures),
-    )
+    let l = c .before .before .before .before in
+    let x = l .before .before .shared-slice-known .given (l .loop .i) .fits in
+    let y = l .before .shared-slice-known2 .given (l .loop .i) .fits in
+    (omega arith, ones-more (l .loop .inv .1) x y (c .joined .ensures))
 
 returns : tie.Need-returns Inv-loop μ-loop
 returns c =
     let e : c .before .loop .i ≡ length (c .before .before .before .before .args .a .now) = omega arith in
-    rw e at (c .before .loop .inv .1)
+    rw e at (c .before .loop .inv .1 .count)
 
 pub ones-of-spec : {M : Type 1} → statement M
 ones-of-spec =

@@ -2,25 +2,22 @@
 -- The measure is the number of words left. Assumes nothing.
 use borrow.Author.Needs.{needs}
 use native.Mathlib.Omega.{arith}
-use Prim.Native.Nat.{_-_, _*_, _≤_}
+use Prim.Native.Nat.{_-_, _≤_}
 use mathlib.Core.Path.{_≡_}
 use lib.ListN.{length}
-use Rattle.places.specs.Below.{countBelow}
-use Rattle.bit.specs.Bits.{meets}
-use Rattle.bit.proofs.Vectors.{count-step, count-fits}
+use Rattle.bit.proofs.Vectors.{FirstOnes, ones-none, ones-more, ones-fit}
 use Rattle.bit.specs.declared.Op.the-variants.{And, Or}
 use Rattle.bit.proofs.ones_of_both.Statement.{statement}
 use Rattle.bit.proofs.ones_of_both.Tie as tie
 
 abbrev Inv-loop : tie.InvT-loop
-Inv-loop a b and₀ or₀ i₀ and or i = (i ≤ length a) × ((and ≡ countBelow (meets And a b) (64 * i)) × (or ≡ countBelow (meets Or a b) (64 * i)))
+Inv-loop a b and₀ or₀ i₀ and or i = (i ≤ length a) × (FirstOnes And a b i and × FirstOnes Or a b i or)
 
 abbrev μ-loop : tie.MeasureT-loop
 μ-loop a b and₀ or₀ i₀ and or i = length a - i
 
 loop-holds : tie.Need-loop-holds Inv-loop μ-loop
-unfolding countBelow
-loop-holds c = search needs
+loop-holds c = (omega arith, (ones-none, ones-none))
 
 mul-x : tie.Need-mul-x Inv-loop μ-loop
 mul-x c = search needs
@@ -38,19 +35,15 @@ joined-requires : tie.Need-joined-requires Inv-loop μ-loop
 joined-requires c κs = search needs
 
 add-and : tie.Need-add-and Inv-loop μ-loop
-add-and c =
-    let a = c .before .before .before .before .before .before .before .args in
-    let l = c .before .before .before .before .loop in
-    record { fits = count-fits (meets And (a .a .now) (a .b .now)) (l .i) (l .and) (c .joined .result) (l .inv .1 .0) (omega arith) (omega arith) }
+add-and c = record { fits = ones-fit (c .joined .result) (c .before .before .before .before .loop .inv .1 .0) (omega arith) (omega arith) }
 
 joined-requires-2 : tie.Need-joined-requires-2 Inv-loop μ-loop
 joined-requires-2 c κs = search needs
 
 add-or : tie.Need-add-or Inv-loop μ-loop
 add-or c =
-    let a = c .before .before .before .before .before .before .before .before .args in
     let l = c .before .before .before .before .before .loop in
-    record { fits = count-fits (meets Or (a .a .now) (a .b .now)) (l .i) (l .or) (c .joined2 .result) (l .inv .1 .1) (omega arith) (omega arith) }
+    record { fits = ones-fit (c .joined2 .result) (l .inv .1 .1) (omega arith) (omega arith) }
 
 add-i : tie.Need-add-i Inv-loop μ-loop
 add-i c = search needs
@@ -60,21 +53,17 @@ loop-less c = search needs
 
 loop-again : tie.Need-loop-again Inv-loop μ-loop
 loop-again c =
-    let a = c .before .before .before .before .before .before .before .before .args in
-    let l = c .before .before .before .before .before .loop in
-    let x = c .before .before .before .shared-slice-known3 .given (l .i) .fits in
-    let y = c .before .before .shared-slice-known4 .given (l .i) .fits in (
-      omega arith,
-      (
-        count-step And (a .a .now) (a .b .now) (l .i) (l .and) (c .before .joined .result) x y (l .inv .1 .0) (c .before .joined .ensures),
-        count-step Or (a .a .now) (a .b .now) (l .i) (l .or) (c .joined2 .result) x y (l .inv .1 .1) (c .joined2 .ensures),
-      ),
-    )
+    let l = c .before .before .before .before .before in
+    let x = l .before .before .shared-slice-known .given (l .loop .i) .fits in
+    let y = l .before .shared-slice-known2 .given (l .loop .i) .fits in
+    let n = l .loop .inv .1 in
+    (omega arith, (ones-more (n .0) x y (c .before .joined .ensures), ones-more (n .1) x y (c .joined2 .ensures)))
 
 returns : tie.Need-returns Inv-loop μ-loop
 returns c =
-    let e : c .before .loop .i ≡ length (c .before .before .before .before .args .a .now) = omega arith in
-    rw e at (c .before .loop .inv .1)
+    let l = c .before .loop in
+    let e : l .i ≡ length (c .before .before .before .before .args .a .now) = omega arith in
+    (rw e at (l .inv .1 .0 .count), rw e at (l .inv .1 .1 .count))
 
 pub ones-of-both-spec : {M : Type 1} → statement M
 ones-of-both-spec =

@@ -1,11 +1,20 @@
 -- `bit::sum_of_x` meets its contract: the ones of a vector are those of it AND itself. Assumes nothing.
 use borrow.Author.Needs.{needs}
-use mathlib.Core.Path.{sym, _∙_}
-use Rattle.bit.proofs.Pairs.{itself, alike, ones-dims, ones-self}
+use mathlib.Core.Path.{_≡_, sym, _∙_}
+use Rattle.refusal.specs.declared.Checked.the-variants.{Valid}
+use Rattle.bit.specs.Calls.{checkedOf}
+use Rattle.bit.proofs.Pairs.{Pair, itself, alike, ones-dims, ones-self}
 use Rattle.bit.proofs.Counted.{count-answer}
 use Rattle.bit.specs.declared.Op.the-variants.{And}
 use Rattle.bit.proofs.sum_of_x.Statement.{statement}
 use Rattle.bit.proofs.sum_of_x.Tie as tie
+
+-- the vector passed its tests
+passed : (c : tie.After-enum-told) → let a = c .before .before .before .before .args in checkedOf (a .dims) (a .a .now) ≡ Valid
+passed c = sym (c .before .before .check .ensures .answer) ∙ c .enum-told .given .1
+
+twice : (c : tie.After-enum-told) → let a = c .before .before .before .before .args in Pair (a .dims) (a .a .now) (a .dims) (a .a .now)
+twice c = itself _ _ (passed c)
 
 check-requires : tie.Need-check-requires
 check-requires c κs = search needs
@@ -20,13 +29,10 @@ enum-told : tie.Need-enum-told
 enum-told c = search needs
 
 ones-of-requires : tie.Need-ones-of-requires
-ones-of-requires c κs = let a = c .before .before .before .before .args in alike (itself (a .dims) (a .a .now) (sym (c .before .before .check .ensures .answer) ∙ c .enum-told .given .1))
+ones-of-requires c κs = alike (twice c)
 
 returns-2 : tie.Need-returns-2
-returns-2 c =
-    let a = c .before .before .before .before .before .args in
-    let passed = sym (c .before .before .before .check .ensures .answer) ∙ c .before .enum-told .given .1 in
-    count-answer _ (rw (passed, c .ones-of .ensures, ones-dims And (itself (a .dims) (a .a .now) passed), ones-self))
+returns-2 c = count-answer _ (rw (passed (c .before), c .ones-of .ensures, ones-dims And (twice (c .before)), ones-self))
 
 pub sum-of-x-spec : {M : Type 1} → statement M
 sum-of-x-spec =

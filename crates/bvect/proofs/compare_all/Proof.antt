@@ -1,16 +1,16 @@
--- `bvect::compare_all` meets its contract. The loop's invariant: the first i words are the same. The measure is the number of words left. Assumes nothing.
+-- `bvect::compare_all` meets its contract. The loop's invariant: the first i words are the same.
+-- The measure is the number of words left. Assumes nothing.
 use borrow.Author.Count.{below-more}
 use borrow.Author.Needs.{needs}
 use native.Mathlib.Omega.{arith}
-use Prim.Native.Nat.{ℕ, _-_, _≤_, _<_}
-use mathlib.Core.Path.{_≡_}
-use lib.ListN.{length, getD}
-use Rattle.bvect.proofs.Orders.{words-decide, words-equal}
+use Prim.Native.Nat.{_-_, _≤_}
+use lib.ListN.{length}
+use Rattle.bvect.proofs.Orders.{SameFirst, words-decide, words-equal}
 use Rattle.bvect.proofs.compare_all.Statement.{statement}
 use Rattle.bvect.proofs.compare_all.Tie as tie
 
 abbrev Inv-loop : tie.InvT-loop
-Inv-loop a b i₀ i = (i ≤ length a) × ((j : ℕ) → j < i → getD a j 0 ≡ getD b j 0)
+Inv-loop a b i₀ i = (i ≤ length a) × SameFirst a b i
 
 abbrev μ-loop : tie.MeasureT-loop
 μ-loop a b i₀ i = length a - i
@@ -35,9 +35,12 @@ compare-words-requires c κs = search needs
 
 returns : tie.Need-returns Inv-loop μ-loop
 returns c =
-    let a = c .before .before .before .before .before .before .before .before .args in
-    let l = c .before .before .before .before .before .loop in
-    rw (words-decide (a .a .now) (a .b .now) (l .i) (c .before .before .before .shared-slice-known3 .given (l .i) .fits) (c .before .before .shared-slice-known4 .given (l .i) .fits) (c .before .if1 .taken) (omega arith) (l .inv .1)) (c .compare-words .ensures)
+    let l = c .before .before .before .before .before in
+    let a = l .before .before .before .args in
+    let i = l .loop .i in
+    let x = l .before .before .shared-slice-known .given i .fits in
+    let y = l .before .shared-slice-known2 .given i .fits in
+    rw (words-decide (a .a .now) (a .b .now) i x y (c .before .if1 .taken) (omega arith) (l .loop .inv .1)) (c .compare-words .ensures)
 
 add-i : tie.Need-add-i Inv-loop μ-loop
 add-i c = search needs

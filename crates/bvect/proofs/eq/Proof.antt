@@ -1,11 +1,24 @@
 -- `bvect::eq` meets its contract: the checks, the dims, the words. Assumes nothing.
 use borrow.Author.Tests.{eq-eqb, ne-eqb}
 use borrow.Author.Needs.{needs}
-use mathlib.Core.Path.{sym, _∙_}
+use mathlib.Core.Path.{_≡_, sym, _∙_}
+use Rattle.refusal.specs.declared.Checked.the-variants.{Valid}
 use Rattle.refusal.proofs.Told.{asked-answer}
-use Rattle.bit.proofs.Pairs.{each-sound, pair-of, alike}
+use Rattle.bit.specs.Calls.{eachOf}
+use Rattle.bit.proofs.Pairs.{Pair, each-sound, pair-of, alike}
 use Rattle.bvect.proofs.eq.Statement.{statement}
 use Rattle.bvect.proofs.eq.Tie as tie
+
+abbrev start : tie.After-enum-told → tie.Start
+start c = c .before .before .before .before .before
+
+-- the vectors passed their tests
+passed : (c : tie.After-enum-told) → let a = start c .args in eachOf (a .dims-a) (a .a .now) (a .dims-b) (a .b .now) ≡ Valid
+passed c = sym (c .before .before .check-each .ensures .answer) ∙ c .enum-told .given .1
+
+-- and their dims are equal
+pair : (c : tie.Else1) → let a = start (c .before) .args in Pair (a .dims-a) (a .a .now) (a .dims-b) (a .b .now)
+pair c = pair-of (each-sound _ _ _ _ (passed (c .before))) (c .if1 .left)
 
 check-each-requires : tie.Need-check-each-requires
 check-each-requires c κs = search needs
@@ -21,23 +34,21 @@ enum-told c = search needs
 
 returns-2 : tie.Need-returns-2
 returns-2 c =
-    let a = c .before .before .before .before .before .before .args in
-    asked-answer _ (rw (sym (c .before .before .before .check-each .ensures .answer) ∙ c .before .enum-told .given .1, ne-eqb (a .dims-a) (a .dims-b) (c .if1 .taken)))
+    let a = start (c .before) .args in
+    asked-answer _ (rw (passed (c .before), ne-eqb (a .dims-a) (a .dims-b) (c .if1 .taken)))
 
 same-words-requires : tie.Need-same-words-requires
-same-words-requires c κs =
-    let a = c .before .before .before .before .before .before .args in
-    alike (pair-of (each-sound (a .dims-a) (a .a .now) (a .dims-b) (a .b .now) (sym (c .before .before .before .check-each .ensures .answer) ∙ c .before .enum-told .given .1)) (c .if1 .left))
+same-words-requires c κs = alike (pair c)
 
 returns-3 : tie.Need-returns-3
 returns-3 c =
-    let a = c .before .before .before .before .before .before .before .before .args in
-    asked-answer _ (rw (sym (c .before .before .before .before .before .check-each .ensures .answer) ∙ c .before .before .before .enum-told .given .1, eq-eqb (a .dims-a) (a .dims-b) (c .before .before .if1 .left), sym (c .before .same-words .ensures) ∙ c .if2 .taken))
+    let t = c .before .before in
+    asked-answer _ (rw (passed (t .before), eq-eqb _ _ (pair t .equal), sym (c .before .same-words .ensures) ∙ c .if2 .taken))
 
 returns-4 : tie.Need-returns-4
 returns-4 c =
-    let a = c .before .before .before .before .before .before .before .before .args in
-    asked-answer _ (rw (sym (c .before .before .before .before .before .check-each .ensures .answer) ∙ c .before .before .before .enum-told .given .1, eq-eqb (a .dims-a) (a .dims-b) (c .before .before .if1 .left), sym (c .before .same-words .ensures) ∙ c .if2 .left))
+    let t = c .before .before in
+    asked-answer _ (rw (passed (t .before), eq-eqb _ _ (pair t .equal), sym (c .before .same-words .ensures) ∙ c .if2 .left))
 
 pub eq-spec : {M : Type 1} → statement M
 eq-spec =

@@ -2,11 +2,23 @@
 use borrow.Author.Tests.{le-leb, lt-leb}
 use borrow.Author.Needs.{needs}
 use native.Mathlib.Omega.{arith}
-use mathlib.Core.Path.{sym, _∙_}
+use mathlib.Core.Bool.{false}
+use mathlib.Core.Path.{_≡_, sym, _∙_}
+use lib.Dec.{leb}
+use Rattle.refusal.specs.declared.Checked.the-variants.{Valid}
 use Rattle.refusal.proofs.Told.{asked-answer}
+use Rattle.bit.specs.Calls.{checkedOf}
 use Rattle.bit.proofs.Checks.{sound}
 use Rattle.bvect.proofs.get.Statement.{statement}
 use Rattle.bvect.proofs.get.Tie as tie
+
+-- the vector passed its tests
+passed : (c : tie.After-enum-told) → let a = c .before .before .before .before .args in checkedOf (a .dims) (a .words .now) ≡ Valid
+passed c = sym (c .before .before .check .ensures .answer) ∙ c .enum-told .given .1
+
+-- and the index did
+inside : (c : tie.Else1) → let a = c .before .before .before .before .before .args in leb (a .dims) (a .index) ≡ false
+inside c = let a = c .before .before .before .before .before .args in lt-leb (a .dims) (a .index) (omega arith)
 
 check-requires : tie.Need-check-requires
 check-requires c κs = search needs
@@ -23,22 +35,20 @@ enum-told c = search needs
 returns-2 : tie.Need-returns-2
 returns-2 c =
     let a = c .before .before .before .before .before .args in
-    asked-answer _ (rw (sym (c .before .before .before .check .ensures .answer) ∙ c .before .enum-told .given .1, le-leb (a .dims) (a .index) (c .if1 .taken)))
+    asked-answer _ (rw (passed (c .before), le-leb (a .dims) (a .index) (omega arith)))
 
 bit-at-requires : tie.Need-bit-at-requires
-bit-at-requires c κs =
-    let a = c .before .before .before .before .before .args in
-    omega (arith, sound (a .dims) (a .words .now) (sym (c .before .before .before .check .ensures .answer) ∙ c .before .enum-told .given .1) .long)
+bit-at-requires c κs = omega (arith, sound _ _ (passed (c .before)) .long)
 
 returns-3 : tie.Need-returns-3
 returns-3 c =
-    let a = c .before .before .before .before .before .before .before .args in
-    asked-answer _ (rw (sym (c .before .before .before .before .before .check .ensures .answer) ∙ c .before .before .before .enum-told .given .1, lt-leb (a .dims) (a .index) (c .before .before .if1 .left), sym (c .before .bit-at .ensures) ∙ c .if2 .taken))
+    let t = c .before .before in
+    asked-answer _ (rw (passed (t .before), inside t, sym (c .before .bit-at .ensures) ∙ c .if2 .taken))
 
 returns-4 : tie.Need-returns-4
 returns-4 c =
-    let a = c .before .before .before .before .before .before .before .args in
-    asked-answer _ (rw (sym (c .before .before .before .before .before .check .ensures .answer) ∙ c .before .before .before .enum-told .given .1, lt-leb (a .dims) (a .index) (c .before .before .if1 .left), sym (c .before .bit-at .ensures) ∙ c .if2 .left))
+    let t = c .before .before in
+    asked-answer _ (rw (passed (t .before), inside t, sym (c .before .bit-at .ensures) ∙ c .if2 .left))
 
 pub get-spec : {M : Type 1} → statement M
 get-spec =

@@ -2,7 +2,7 @@
 use borrow.Author.Needs.{needs}
 use Rattle.refusal.proofs.Told.{distance-answer}
 use Rattle.bit.specs.declared.Op.the-variants.{Xor}
-use Rattle.bvect.proofs.Counts.{count-float, counted, not-counted}
+use Rattle.bvect.proofs.Counts.{counted, counted-float, not-counted}
 use Rattle.bvect.proofs.operator_hamming.Statement.{statement}
 use Rattle.bvect.proofs.operator_hamming.Tie as tie
 
@@ -14,23 +14,22 @@ enum-known-n c = search needs
 
 int-to-float-t10 : tie.Need-int-to-float-t10
 int-to-float-t10 c =
-    let a = c .before .before .before .before .before .before .before .args in
-    let k = counted (a .dims-a) (a .a .now) (a .dims-b) (a .b .now) Xor (c .before .before .before .before .sum-of-xor .ensures) (c .before .before .n .given .1) in
-    rw (k .1) (count-float (a .dims-a) (a .a .now) (a .dims-b) (a .b .now) Xor (k .0))
+    let t = c .before .before in
+    counted-float _ _ _ _ Xor (t .before .before .sum-of-xor .ensures) (t .n .given .1)
 
 enum-known-number : tie.Need-enum-known-number
 enum-known-number c = search needs
 
 returns : tie.Need-returns
 returns c =
-    let a = c .before .before .before .before .before .before .before .args in
-    let k = counted (a .dims-a) (a .a .now) (a .dims-b) (a .b .now) Xor (c .before .before .before .before .sum-of-xor .ensures) (c .before .before .n .given .1) in
+    let t = c .before .before in
+    let k = counted _ _ _ _ Xor (t .before .before .sum-of-xor .ensures) (t .n .given .1) in
     distance-answer _ (rw (k .0, k .1))
 
 returns-2 : tie.Need-returns-2
 returns-2 c =
-    let a = c .before .before .before .before .before .before .args in
-    distance-answer _ (rw (not-counted (a .dims-a) (a .a .now) (a .dims-b) (a .b .now) Xor (c .before .before .before .sum-of-xor .ensures) (c .before .number .given .1)))
+    let t = c .before in
+    distance-answer _ (rw (not-counted _ _ _ _ Xor (t .before .before .sum-of-xor .ensures) (t .number .given .1)))
 
 pub operator-hamming-spec : {M : Type 1} → statement M
 operator-hamming-spec =

@@ -1,8 +1,7 @@
 -- `bvect::operator_jaccard` meets its contract: both counts are floats exactly, and the two steps are the definition's. Assumes nothing.
 use borrow.Author.Needs.{needs}
 use Rattle.refusal.proofs.Told.{distance-answer}
-use Rattle.bit.specs.declared.Op.the-variants.{And, Or}
-use Rattle.bvect.proofs.Counts.{one-float, count-float, both-counted, not-both-counted}
+use Rattle.bvect.proofs.Counts.{one-float, both-counted, both-float, not-both-counted}
 use Rattle.bvect.proofs.operator_jaccard.Statement.{statement}
 use Rattle.bvect.proofs.operator_jaccard.Tie as tie
 
@@ -14,29 +13,27 @@ enum-known-and c = search needs
 
 int-to-float-common : tie.Need-int-to-float-common
 int-to-float-common c =
-    let a = c .before .before .before .before .before .before .before .args in
-    let k = both-counted (a .dims-a) (a .a .now) (a .dims-b) (a .b .now) (c .before .before .before .before .sum-of-and-or .ensures) (c .before .before .and .given .1) in
-    rw (k .1) (count-float (a .dims-a) (a .a .now) (a .dims-b) (a .b .now) And (k .0))
+    let t = c .before .before in
+    both-float _ _ _ _ (t .before .before .sum-of-and-or .ensures) (t .and .given .1) .0
 
 int-to-float-all : tie.Need-int-to-float-all
 int-to-float-all c =
-    let a = c .before .before .before .before .before .before .before .before .args in
-    let k = both-counted (a .dims-a) (a .a .now) (a .dims-b) (a .b .now) (c .before .before .before .before .before .sum-of-and-or .ensures) (c .before .before .before .and .given .1) in
-    rw (k .2) (count-float (a .dims-a) (a .a .now) (a .dims-b) (a .b .now) Or (k .0))
+    let t = c .before .before .before in
+    both-float _ _ _ _ (t .before .before .sum-of-and-or .ensures) (t .and .given .1) .1
 
 enum-known-number : tie.Need-enum-known-number
 enum-known-number c = search needs
 
 returns : tie.Need-returns
 returns c =
-    let a = c .before .before .before .before .before .before .before .before .args in
-    let k = both-counted (a .dims-a) (a .a .now) (a .dims-b) (a .b .now) (c .before .before .before .before .before .sum-of-and-or .ensures) (c .before .before .before .and .given .1) in
+    let t = c .before .before .before in
+    let k = both-counted _ _ _ _ (t .before .before .sum-of-and-or .ensures) (t .and .given .1) in
     distance-answer _ (rw (k .0, k .1, k .2, one-float))
 
 returns-2 : tie.Need-returns-2
 returns-2 c =
-    let a = c .before .before .before .before .before .before .args in
-    distance-answer _ (rw (not-both-counted (a .dims-a) (a .a .now) (a .dims-b) (a .b .now) (c .before .before .before .sum-of-and-or .ensures) (c .before .number .given .1)))
+    let t = c .before in
+    distance-answer _ (rw (not-both-counted _ _ _ _ (t .before .before .sum-of-and-or .ensures) (t .number .given .1)))
 
 pub operator-jaccard-spec : {M : Type 1} → statement M
 operator-jaccard-spec =

@@ -1,11 +1,24 @@
 -- `bvect::partial_cmp` meets its contract: the words decide as the bits below dims do, since the padding is clear. Assumes nothing.
 use borrow.Author.Tests.{eq-eqb, ne-eqb}
 use borrow.Author.Needs.{needs}
-use mathlib.Core.Path.{sym, _∙_}
-use Rattle.bit.proofs.Pairs.{each-sound, pair-of, alike}
+use mathlib.Core.Path.{_≡_, sym, _∙_}
+use Rattle.refusal.specs.declared.Checked.the-variants.{Valid}
+use Rattle.bit.specs.Calls.{eachOf}
+use Rattle.bit.proofs.Pairs.{Pair, each-sound, pair-of, alike}
 use Rattle.bvect.proofs.Orders.{compares, order-dims}
 use Rattle.bvect.proofs.partial_cmp.Statement.{statement}
 use Rattle.bvect.proofs.partial_cmp.Tie as tie
+
+abbrev start : tie.After-enum-told → tie.Start
+start c = c .before .before .before .before .before
+
+-- the vectors passed their tests
+passed : (c : tie.After-enum-told) → let a = start c .args in eachOf (a .dims-a) (a .a .now) (a .dims-b) (a .b .now) ≡ Valid
+passed c = sym (c .before .before .check-each .ensures .answer) ∙ c .enum-told .given .1
+
+-- and their dims are equal
+pair : (c : tie.Else1) → let a = start (c .before) .args in Pair (a .dims-a) (a .a .now) (a .dims-b) (a .b .now)
+pair c = pair-of (each-sound _ _ _ _ (passed (c .before))) (c .if1 .left)
 
 check-each-requires : tie.Need-check-each-requires
 check-each-requires c κs = search needs
@@ -14,26 +27,23 @@ enum-known-number : tie.Need-enum-known-number
 enum-known-number c = search needs
 
 returns : tie.Need-returns
-returns c = let a = c .before .before .before .before .before .before .args in compares (a .dims-a) (a .a .now) (a .dims-b) (a .b .now) (rw (sym (c .before .before .before .check-each .ensures .answer) ∙ c .before .number .given .1))
+returns c = compares _ _ _ _ (rw (sym (c .before .before .before .check-each .ensures .answer) ∙ c .before .number .given .1))
 
 enum-told : tie.Need-enum-told
 enum-told c = search needs
 
 returns-2 : tie.Need-returns-2
 returns-2 c =
-    let a = c .before .before .before .before .before .before .args in
-    compares (a .dims-a) (a .a .now) (a .dims-b) (a .b .now) (rw (sym (c .before .before .before .check-each .ensures .answer) ∙ c .before .enum-told .given .1, ne-eqb (a .dims-a) (a .dims-b) (c .if1 .taken)))
+    let a = start (c .before) .args in
+    compares _ _ _ _ (rw (passed (c .before), ne-eqb (a .dims-a) (a .dims-b) (c .if1 .taken)))
 
 compare-all-requires : tie.Need-compare-all-requires
-compare-all-requires c κs =
-    let a = c .before .before .before .before .before .before .args in
-    alike (pair-of (each-sound (a .dims-a) (a .a .now) (a .dims-b) (a .b .now) (sym (c .before .before .before .check-each .ensures .answer) ∙ c .before .enum-told .given .1)) (c .if1 .left))
+compare-all-requires c κs = alike (pair c)
 
 returns-3 : tie.Need-returns-3
 returns-3 c =
-    let a = c .before .before .before .before .before .before .before .args in
-    let passed = sym (c .before .before .before .before .check-each .ensures .answer) ∙ c .before .before .enum-told .given .1 in
-    compares (a .dims-a) (a .a .now) (a .dims-b) (a .b .now) (rw (passed, eq-eqb (a .dims-a) (a .dims-b) (c .before .if1 .left), order-dims (pair-of (each-sound (a .dims-a) (a .a .now) (a .dims-b) (a .b .now) passed) (c .before .if1 .left))) (c .compare-all .ensures))
+    let t = c .before in
+    compares _ _ _ _ (rw (passed (t .before), eq-eqb _ _ (pair t .equal), order-dims (pair t)) (c .compare-all .ensures))
 
 pub partial-cmp-spec : {M : Type 1} → statement M
 partial-cmp-spec =

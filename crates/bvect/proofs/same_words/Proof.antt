@@ -1,19 +1,16 @@
--- `bvect::same_words` meets its contract. The loop's invariant: the first i words are the same. The measure is the number of words left. Assumes nothing.
+-- `bvect::same_words` meets its contract. The loop's invariant: the first i words are the same.
+-- The measure is the number of words left. Assumes nothing.
 use borrow.Author.Count.{below-more}
-use borrow.Author.Tests.{eq-eqb, ne-eqb}
 use borrow.Author.Needs.{needs}
 use native.Mathlib.Omega.{arith}
-use Prim.Native.Nat.{ℕ, _-_, _≤_, _<_}
-use mathlib.Core.Bool.{not}
-use mathlib.Core.Path.{_≡_, ap}
-use lib.Dec.{eqb}
-use lib.ListN.{length, getD}
-use Rattle.places.proofs.Below.{any-true, any-none}
+use Prim.Native.Nat.{_-_, _≤_}
+use lib.ListN.{length}
+use Rattle.bvect.proofs.Orders.{SameFirst, words-same, words-differ}
 use Rattle.bvect.proofs.same_words.Statement.{statement}
 use Rattle.bvect.proofs.same_words.Tie as tie
 
 abbrev Inv-loop : tie.InvT-loop
-Inv-loop a b i₀ i = (i ≤ length a) × ((j : ℕ) → j < i → getD a j 0 ≡ getD b j 0)
+Inv-loop a b i₀ i = (i ≤ length a) × SameFirst a b i
 
 abbrev μ-loop : tie.MeasureT-loop
 μ-loop a b i₀ i = length a - i
@@ -36,8 +33,7 @@ shared-slice-read-if1-2 c = search needs
 returns : tie.Need-returns Inv-loop μ-loop
 returns c =
     let a = c .before .before .before .before .before .args in
-    let l = c .before .before .before .before .loop in
-    rw (any-true (λ j. not (eqb (getD (a .a .now) j 0) (getD (a .b .now) j 0))) (length (a .a .now)) (l .i) (omega arith) (ap not (ne-eqb (getD (a .a .now) (l .i) 0) (getD (a .b .now) (l .i) 0) (c .if1 .taken))))
+    rw (words-differ (a .a .now) (a .b .now) (c .before .before .before .before .loop .i) (omega arith) (c .if1 .taken))
 
 add-i : tie.Need-add-i Inv-loop μ-loop
 add-i c = search needs
@@ -51,7 +47,7 @@ loop-again c = (omega arith, below-more _ _ (c .before .before .before .before .
 returns-2 : tie.Need-returns-2 Inv-loop μ-loop
 returns-2 c =
     let a = c .before .before .args in
-    rw (any-none (λ j. not (eqb (getD (a .a .now) j 0) (getD (a .b .now) j 0))) (length (a .a .now)) (λ j h. ap not (eq-eqb (getD (a .a .now) j 0) (getD (a .b .now) j 0) (c .before .loop .inv .1 j (omega arith)))))
+    rw (words-same (a .a .now) (a .b .now) (λ j h. c .before .loop .inv .1 j (omega arith)))
 
 pub same-words-spec : {M : Type 1} → statement M
 same-words-spec =
