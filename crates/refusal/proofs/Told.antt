@@ -5,7 +5,8 @@ use mathlib.Core.List.{List, [], _∷_, _++_}
 use mathlib.Core.Path.{_≡_, refl, sym, ap, _∙_}
 use lib.ListN.{length, drop}
 use lib.Ieee.{Float}
-use Rattle.refusal.specs.Answers.{Says, says, tells, Answers, Checks, Measures, Asks, Orders, Writes, leaves, same, checkedSays, distanceSays, distanceOf, writtenSays, writtenOf, askedSays, askedOf, orderSays, orderOf}
+use Rattle.refusal.specs.Answers.{Says, says, tells, Answers, Checks, Measures, Asks, Orders, Writes, leaves}
+use Rattle.refusal.specs.Answers.{same, checkedSays, distanceSays, distanceOf, writtenSays, writtenOf, askedSays, askedOf, orderSays, orderOf}
 use Rattle.refusal.specs.declared.Checked.{Checked}
 use Rattle.refusal.specs.declared.Checked.the-variants.{Valid, Refused}
 use Rattle.refusal.specs.declared.Distance.{Distance}
@@ -58,11 +59,13 @@ order-answer o done e = answered orderSays [] (orderOf o) (order-fair o done) e
 
 -- ---- calls that write
 
-pub refused-writes : (d : ℕ) (new : List ℕ) {due : Checked} {old : List ℕ} {n p : ℕ} → due ≡ Refused n p → Writes due d new old (NotWritten n p) old
+pub refused-writes : (d : ℕ) (new : List ℕ) {due : Checked} {old : List ℕ} {n p : ℕ} → due ≡ Refused n p
+    → Writes due d new old (NotWritten n p) old
 refused-writes d new {due} {old} e =
     record { answer = written-answer d (length new) (ap (writtenOf d (length new)) (sym e)); output = ap (λ (c : Checked). leaves c new old) (sym e) }
 
-pub done-writes : (d : ℕ) (new : List ℕ) {due : Checked} {old left : List ℕ} {len : ℕ} → due ≡ Valid → len ≡ length new → left ≡ new ++ drop len old → Writes due d new old (Done d len) left
+pub done-writes : (d : ℕ) (new : List ℕ) {due : Checked} {old left : List ℕ} {len : ℕ} → due ≡ Valid → len ≡ length new
+    → left ≡ new ++ drop len old → Writes due d new old (Done d len) left
 done-writes d new {due} {old} {left} e size front =
     record {
       answer = written-answer d (length new) (ap (Done d) size ∙ ap (writtenOf d (length new)) (sym e));
