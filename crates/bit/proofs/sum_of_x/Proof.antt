@@ -1,10 +1,11 @@
 -- `bit::sum_of_x` meets its contract: the ones of a vector are those of it AND itself. Assumes nothing.
 use borrow.Author.Needs.{needs}
-use mathlib.Core.Path.{_≡_, sym, _∙_}
+use mathlib.Core.Path.{_≡_, sym, ap, _∙_}
 use Rattle.refusal.specs.declared.Checked.the-variants.{Valid}
 use Rattle.bit.specs.Calls.{checkedOf}
 use Rattle.bit.proofs.Pairs.{Pair, itself, alike, ones-dims, ones-self}
 use Rattle.bit.proofs.Counted.{count-answer}
+use Rattle.bit.specs.declared.Count.the-variants.{Ones}
 use Rattle.bit.specs.declared.Op.the-variants.{And}
 use Rattle.bit.proofs.sum_of_x.Statement.{statement}
 use Rattle.bit.proofs.sum_of_x.Tie as tie
@@ -32,7 +33,9 @@ ones-of-requires : tie.Need-ones-of-requires
 ones-of-requires c κs = alike (twice c)
 
 returns-2 : tie.Need-returns-2
-returns-2 c = count-answer _ (rw (passed (c .before), c .ones-of .ensures, ones-dims And (twice (c .before)), ones-self))
+returns-2 c =
+    let n = c .ones-of .ensures ∙ ones-dims And (twice (c .before)) ∙ ones-self _ _ in
+    count-answer _ (rw (passed (c .before)) (ap Ones n))
 
 pub sum-of-x-spec : {M : Type 1} → statement M
 sum-of-x-spec =

@@ -28,7 +28,7 @@ returns : tie.Need-returns
 returns c =
     let t = c .before .before .before in
     let k = both-counted _ _ _ _ (t .before .before .sum-of-and-or .ensures) (t .and .given .1) in
-    distance-answer _ (rw (k .0, k .1, k .2, one-float))
+    distance-answer _ (rw (k .0, k .1, k .2, ← one-float))
 
 returns-2 : tie.Need-returns-2
 returns-2 c =
