@@ -22,11 +22,13 @@ use Rattle.bit.specs.declared.Counts.the-variants.{Ones as Both, Refused
 abbrev pub badDims : ℕ → Bool
 badDims d = eqb d 0 || ltb 65535 d
 
--- a padding bit is set: a bit of the last word at or above dims
+-- "a padding bit is set": some place at or above dims that the words have holds a one. The number of words is tested first, so that
+-- such a place is in the last word
 unfoldable pub padded : ℕ → List ℕ → Bool
 padded d ws = anyBelow (λ i. leb d i && bitAt ws i) (64 * length ws)
 
--- "Bits: dims in 1..=65,535; exactly ceil(dims/64) words; bits of the last word at and above dims mod 64 are zero"
+-- "Bits: dims in 1..=65,535; exactly ceil(dims/64) words; bits of the last word at and above dims mod 64 are zero when dims mod 64
+-- isn't 0"; PADDING carries the last word
 unfoldable pub checkedOf : ℕ → List ℕ → Checked
 checkedOf d ws =
     refuse (badDims d) DIMS 0
@@ -42,7 +44,7 @@ eachOf d a e b = next (checkedOf d a) (checkedOf e b)
 abbrev pub pairOf : ℕ → List ℕ → ℕ → List ℕ → Checked
 pairOf d a e b = next (eachOf d a e b) (refuse (not (eqb d e)) DIFFER 0 Valid)
 
--- an output of `room` words has no room for a vector of d bits
+-- "output .. too short": an output of `room` words does not hold a vector of d bits; carried are the words needed
 abbrev pub roomOf : ℕ → ℕ → Checked
 roomOf d room = refuse (ltb room (wordsFor d)) ROOM (wordsFor d) Valid
 

@@ -25,7 +25,8 @@ use Rattle.bit.proofs.Lowest.{Lowest, trailing-lowest, xor-some}
 use Rattle.bit.proofs.Pairs.{Pair}
 use Rattle.bit.proofs.Vectors.{bit-at}
 use Rattle.bvect.specs.Calls.{Compares}
-use Rattle.bvect.specs.Orders.{lowest, orderBelow, wordOrder, wordsOrder, sameWords}
+use Rattle.bvect.specs.Orders.{lowest, orderBelow, sameWords}
+use Rattle.bvect.specs.Words.{wordOrder, wordsOrder}
 
 same-bits : (b : Bool) → both Xor b b ≡ false
 same-bits true = refl

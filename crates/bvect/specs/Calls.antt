@@ -19,6 +19,7 @@ use Rattle.bit.specs.Calls.{badDims, checkedOf, eachOf, pairOf, roomOf}
 use Rattle.bvect.specs.Orders.{sameWords, orderBelow}
 use Rattle.bvect.specs.Distances.{dotOf, hammingOf, jaccardOf}
 
+-- "ceil(dims/64) words of room, as for AND, OR, XOR and zero"; without a vector to test, dims and then room
 abbrev pub Zeroes : ℕ → List ℕ → Written → List ℕ → Type 0
 Zeroes d old r left = Writes (refuse (badDims d) DIMS 0 (roomOf d (length old))) d (wordsOf d (λ i. false)) old r left
 
@@ -26,6 +27,7 @@ Zeroes d old r left = Writes (refuse (badDims d) DIMS 0 (roomOf d (length old)))
 abbrev pub Gets : ℕ → List ℕ → ℕ → Asked → Type 0
 Gets d ws i = Asks (bitAt ws i) (next (checkedOf d ws) (refuse (leb d i) INDEX i Valid))
 
+-- the three distances, each after the tests of two vectors
 abbrev pub Dots : ℕ → List ℕ → ℕ → List ℕ → Distance → Type 0
 Dots d a e b = Measures (dotOf d a b) (pairOf d a e b)
 

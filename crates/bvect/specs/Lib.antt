@@ -2,3 +2,4 @@
 pub mod Orders
 pub mod Distances
 pub mod Calls
+pub mod Words

@@ -19,7 +19,8 @@ ghost use Rattle.bit.specs.Calls.{checkedOf, Combines};
 ghost use Rattle.bit.specs.Words.{Alike};
 ghost use Rattle.bit.specs.declared.Op.the-variants.{And, Or, Xor};
 ghost use Rattle.bvect.specs.Calls.{Zeroes, Gets, Dots, Hammings, Jaccards, Cuts, Equals, Compares};
-ghost use Rattle.bvect.specs.Orders.{wordOrder, sameWords, wordsOrder, Gathers};
+ghost use Rattle.bvect.specs.Orders.{sameWords};
+ghost use Rattle.bvect.specs.Words.{wordOrder, wordsOrder, Gathers};
 
 // Whether `words` is a bit vector of `dims` bits. Refuses with DIMS, LENGTH, PADDING.
 pub fn new_checked(dims: u32, words: &[u64]) -> Checked
