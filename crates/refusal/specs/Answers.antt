@@ -12,6 +12,8 @@ use Rattle.refusal.specs.declared.Distance.{Distance}
 use Rattle.refusal.specs.declared.Distance.the-variants.{Value, Refused as NoDistance}
 use Rattle.refusal.specs.declared.Written.{Written}
 use Rattle.refusal.specs.declared.Written.the-variants.{Done, Refused as NotWritten}
+use Rattle.refusal.specs.declared.Merged.{Merged}
+use Rattle.refusal.specs.declared.Merged.the-variants.{Done as Joined, Refused as NotMerged}
 use Rattle.refusal.specs.declared.Asked.{Asked}
 use Rattle.refusal.specs.declared.Asked.the-variants.{Yes, No, Refused as NotAsked}
 use Rattle.refusal.specs.declared.Ordering.{Ordering}
@@ -60,6 +62,11 @@ abbrev pub writtenSays : Written → Says
 writtenSays (Done d len) = says 0 0 (d ∷ len ∷ [])
 writtenSays (NotWritten n p) = says n p (0 ∷ 0 ∷ [])
 
+-- the dims, the number of entries written, and the turns
+abbrev pub mergedSays : Merged → Says
+mergedSays (Joined d len turns) = says 0 0 (d ∷ len ∷ turns ∷ [])
+mergedSays (NotMerged n p) = says n p (0 ∷ 0 ∷ 0 ∷ [])
+
 -- 1 for yes
 abbrev pub askedSays : Asked → Says
 askedSays Yes = says 0 0 (1 ∷ [])
@@ -86,6 +93,10 @@ distanceOf x (Refused n p) = NoDistance n p
 abbrev pub writtenOf : ℕ → ℕ → Checked → Written
 writtenOf d len Valid = Done d len
 writtenOf d len (Refused n p) = NotWritten n p
+
+abbrev pub mergedOf : ℕ → ℕ → ℕ → Checked → Merged
+mergedOf d len turns Valid = Joined d len turns
+mergedOf d len turns (Refused n p) = NotMerged n p
 
 abbrev pub askedOf : Bool → Checked → Asked
 askedOf b Valid = cond b Yes No

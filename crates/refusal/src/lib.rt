@@ -53,6 +53,13 @@ pub enum Written {
     Refused(u32, usize),
 }
 
+// Two vectors were put together in a lent output: the dims and the entries of the answer, and the turns
+// that the walk over both took.
+pub enum Merged {
+    Done(u32, usize, usize),
+    Refused(u32, usize),
+}
+
 // A question with two answers.
 pub enum Asked {
     Yes,

@@ -1,0 +1,30 @@
+-- What dot, L2 and the three sums promise: the tests in their order, and the answer.
+use mathlib.Core.List.{[]}
+use Rattle.refusal.specs.Answers.{Says, says, Answers, Measures}
+use Rattle.refusal.specs.declared.Checked.{Checked}
+use Rattle.refusal.specs.declared.Checked.the-variants.{Valid, Refused}
+use Rattle.refusal.specs.declared.Distance.{Distance}
+use Rattle.sparse.specs.Vectors.{Vector}
+use Rattle.sparse.specs.Calls.{pairOf}
+use Rattle.folds.specs.Sums.{dotOf, l2Of, threeOf}
+use Rattle.folds.specs.declared.Three.{Three}
+use Rattle.folds.specs.declared.Summed.{Summed}
+use Rattle.folds.specs.declared.Summed.the-variants.{Sums, Refused as NotSummed}
+
+-- three floats or a refusal, never both
+abbrev pub summedSays : Summed → Says
+summedSays (Sums t) = says 0 0 []
+summedSays (NotSummed n p) = says n p []
+
+abbrev pub summedOf : Three → Checked → Summed
+summedOf t Valid = Sums t
+summedOf t (Refused n p) = NotSummed n p
+
+abbrev pub Dots : Vector → Vector → Distance → Type 0
+Dots a b = Measures (dotOf a b) (pairOf a b)
+
+abbrev pub L2s : Vector → Vector → Distance → Type 0
+L2s a b = Measures (l2Of a b) (pairOf a b)
+
+abbrev pub SumsThree : Vector → Vector → Summed → Type 0
+SumsThree a b = Answers summedSays [] (summedOf (threeOf a b)) (pairOf a b)

@@ -1,0 +1,4 @@
+-- The definitions that the contracts of `folds` cite.
+pub mod Sums
+pub mod Calls
+pub mod Loops

@@ -1,0 +1,9 @@
+-- What the loops that sum are handed. A user's promises do not cite this.
+use Prim.Native.Nat.{ℕ}
+use Rattle.sparse.specs.Vectors.{Vector}
+use Rattle.sparse.specs.Walk.{Sound}
+
+-- two vectors of equal dims that passed
+pub record Ready (a b : Vector) : Type 0 where
+  pub left : Sound (a .dims) (a .indexes) (a .values)
+  pub right : Sound (a .dims) (b .indexes) (b .values)

@@ -1,0 +1,56 @@
+-- Document 01, "Sparse algebra": the sum, the difference and the product of two vectors, place by place. "Absent means zero. All float
+-- steps are binary32, nearest, ties to even."
+use Prim.Native.Nat.{ℕ, suc, _-_, min}
+use mathlib.Core.Bool.{_||_, cond}
+use lib.Dec.{eqb}
+use lib.ListN.{getD}
+use lib.Ieee.{binary32, add, sub, mul, neg}
+use Rattle.places.specs.Below.{countBelow}
+use Rattle.sparse.specs.Cells.{keep}
+use Rattle.sparse.specs.Vectors.{Vector, size, at, vectorOf, inUnion}
+use Rattle.sparse.specs.declared.Cell.{Cell}
+use Rattle.sparse.specs.declared.Cell.the-variants.{Empty, Full}
+use Rattle.merges.specs.declared.Op.{Op}
+use Rattle.merges.specs.declared.Op.the-variants.{Add, Sub, Mul}
+
+-- "an index in one operand keeps that value, an index in both gets the sum; zeros are dropped"
+abbrev pub added : Cell → Cell → Cell
+added Empty y = y
+added (Full a) Empty = Full a
+added (Full a) (Full b) = keep (add binary32 a b)
+
+-- "the same with a minus b; an entry only in b is negated"
+abbrev pub subtracted : Cell → Cell → Cell
+subtracted Empty Empty = Empty
+subtracted Empty (Full b) = Full (neg b)
+subtracted (Full a) Empty = Full a
+subtracted (Full a) (Full b) = keep (sub binary32 a b)
+
+-- "indexes in both only, products that are zero dropped"
+abbrev pub multiplied : Cell → Cell → Cell
+multiplied Empty y = Empty
+multiplied (Full a) Empty = Empty
+multiplied (Full a) (Full b) = keep (mul binary32 a b)
+
+abbrev pub joined : Op → Cell → Cell → Cell
+joined Add = added
+joined Sub = subtracted
+joined Mul = multiplied
+
+-- the vector that two vectors of equal dims give
+abbrev pub joins : Op → Vector → Vector → Vector
+joins op a b = vectorOf (a .dims) (λ k. joined op (at a k) (at b k))
+
+-- "the number of distinct indexes in the union, dropped ones included"
+abbrev pub unionTurns : Vector → Vector → ℕ
+unionTurns a b = countBelow (inUnion a b) (a .dims)
+
+-- the place after "the smaller of the two last indexes"; "0 if either is empty"
+abbrev pub commonEnd : Vector → Vector → ℕ
+commonEnd a b =
+    cond (eqb (size a) 0 || eqb (size b) 0) 0
+    (suc (min (getD (a .indexes) (size a - 1) 0) (getD (b .indexes) (size b - 1) 0)))
+
+-- "distinct union indexes not above the smaller of the two last indexes"
+abbrev pub commonTurns : Vector → Vector → ℕ
+commonTurns a b = countBelow (inUnion a b) (commonEnd a b)

@@ -1,0 +1,234 @@
+// The sum, the difference and the product of two sparse vectors, written to a lent pair of lists. Each
+// call tests both vectors and the room, and a refusal leaves the lists as they were.
+
+use refusal::Checked;
+use refusal::Merged;
+use sparse::Cell;
+ghost use mathlib.Core.Path.{_≡_};
+ghost use Prim.Native.Nat.{_+_, min};
+ghost use lib.ListN.{length};
+ghost use Rattle.sparse.specs.Vectors.{vector};
+ghost use Rattle.merges.specs.Algebra.{added, subtracted, multiplied, joined, joins, unionTurns, commonTurns};
+ghost use Rattle.merges.specs.Calls.{Sums, Products};
+ghost use Rattle.merges.specs.Loops.{Ready, Merged};
+ghost use Rattle.merges.specs.declared.Op.the-variants.{Add, Sub, Mul};
+
+// How two places are put together.
+pub enum Op {
+    Add,
+    Sub,
+    Mul,
+}
+
+// One place of a sum.
+pub fn add_cells(x: Cell, y: Cell) -> Cell
+    ensures { λ r. ⌜ r ≡ added x y ⌝ }
+{
+    match x {
+        Cell::Full(a) => match y {
+            Cell::Full(b) => sparse::kept(a + b),
+            Cell::Empty => Cell::Full(a),
+        },
+        Cell::Empty => y,
+    }
+}
+
+// One place of a difference.
+fn sub_cells(x: Cell, y: Cell) -> Cell
+    ensures { λ r. ⌜ r ≡ subtracted x y ⌝ }
+{
+    match x {
+        Cell::Full(a) => match y {
+            Cell::Full(b) => sparse::kept(a - b),
+            Cell::Empty => Cell::Full(a),
+        },
+        Cell::Empty => match y {
+            Cell::Full(b) => Cell::Full(-b),
+            Cell::Empty => Cell::Empty,
+        },
+    }
+}
+
+// One place of a product.
+fn mul_cells(x: Cell, y: Cell) -> Cell
+    ensures { λ r. ⌜ r ≡ multiplied x y ⌝ }
+{
+    match x {
+        Cell::Full(a) => match y {
+            Cell::Full(b) => sparse::kept(a * b),
+            Cell::Empty => Cell::Empty,
+        },
+        Cell::Empty => Cell::Empty,
+    }
+}
+
+fn join_cells(op: Op, x: Cell, y: Cell) -> Cell
+    ensures { λ r. ⌜ r ≡ joined op x y ⌝ }
+{
+    match op {
+        Op::Add => add_cells(x, y),
+        Op::Sub => sub_cells(x, y),
+        Op::Mul => mul_cells(x, y),
+    }
+}
+
+// The entries written, and the turns taken.
+struct Both {
+    len: usize,
+    turns: usize,
+}
+
+// Writes what two vectors of equal dims give, walking over both to the end of both.
+fn merge(
+    op: Op,
+    dims: u32,
+    ia: &[u32],
+    va: &[f32],
+    ib: &[u32],
+    vb: &[f32],
+    oi: &mut [u32],
+    ov: &mut [f32],
+) -> Both
+    requires { ⌜ Ready (vector dims (now ia) (now va)) (vector dims (now ib) (now vb)) (length (now ia) + length (now ib)) (now oi) (now ov) ⌝ }
+    ensures { λ r. ⌜ let a = vector dims (now (ia .entry)) (now (va .entry)) in let b = vector dims (now (ib .entry)) (now (vb .entry)) in Merged (joins op a b) (unionTurns a b) (now (oi .entry)) (now (ov .entry)) r (now (oi .exit)) (now (ov .exit)) ⌝ }
+{
+    let mut p: usize = 0;
+    let mut q: usize = 0;
+    let mut n: usize = 0;
+    let mut turns: usize = 0;
+    while p + q < ia.len() + ib.len() {
+        let t = sparse::one_turn(ia, va, p, ib, vb, q);
+        let x = t.x;
+        let y = t.y;
+        let z = join_cells(op, x, y);
+        n = sparse::put(oi, ov, n, t.place, z);
+        p = t.p;
+        q = t.q;
+        turns += 1;
+    }
+    Both {
+        len: n,
+        turns: turns,
+    }
+}
+
+// Writes the product of two vectors of equal dims, walking over both to the end of one.
+fn multiply(
+    dims: u32,
+    ia: &[u32],
+    va: &[f32],
+    ib: &[u32],
+    vb: &[f32],
+    oi: &mut [u32],
+    ov: &mut [f32],
+) -> Both
+    requires { ⌜ Ready (vector dims (now ia) (now va)) (vector dims (now ib) (now vb)) (min (length (now ia)) (length (now ib))) (now oi) (now ov) ⌝ }
+    ensures { λ r. ⌜ let a = vector dims (now (ia .entry)) (now (va .entry)) in let b = vector dims (now (ib .entry)) (now (vb .entry)) in Merged (joins Mul a b) (commonTurns a b) (now (oi .entry)) (now (ov .entry)) r (now (oi .exit)) (now (ov .exit)) ⌝ }
+{
+    let mut p: usize = 0;
+    let mut q: usize = 0;
+    let mut n: usize = 0;
+    let mut turns: usize = 0;
+    while p < ia.len() && q < ib.len() {
+        let t = sparse::one_turn(ia, va, p, ib, vb, q);
+        let x = t.x;
+        let y = t.y;
+        let z = mul_cells(x, y);
+        n = sparse::put(oi, ov, n, t.place, z);
+        p = t.p;
+        q = t.q;
+        turns += 1;
+    }
+    Both {
+        len: n,
+        turns: turns,
+    }
+}
+
+// Writes a + b, or for Sub a - b. Refuses as `sparse::check_pair` does, and then with ROOM.
+fn sum_of(
+    op: Op,
+    dims_a: u32,
+    ia: &[u32],
+    va: &[f32],
+    dims_b: u32,
+    ib: &[u32],
+    vb: &[f32],
+    oi: &mut [u32],
+    ov: &mut [f32],
+) -> Merged
+    ensures { λ r. ⌜ Sums op (vector «dims_a» (now (ia .entry)) (now (va .entry))) (vector «dims_b» (now (ib .entry)) (now (vb .entry))) (now (oi .entry)) (now (ov .entry)) r (now (oi .exit)) (now (ov .exit)) ⌝ }
+{
+    if let Checked::Refused(number, place) = sparse::check_pair(dims_a, ia, va, dims_b, ib, vb) {
+        return Merged::Refused(number, place);
+    }
+    let room = ia.len() + ib.len();
+    if oi.len() < room {
+        return Merged::Refused(refusal::ROOM, room);
+    }
+    if ov.len() < room {
+        return Merged::Refused(refusal::ROOM, room);
+    }
+    let m = merge(op, dims_a, ia, va, ib, vb, oi, ov);
+    Merged::Done(dims_a, m.len, m.turns)
+}
+
+// Writes a + b to the front of `oi` and `ov`, and answers its dims, entries and turns. Refuses as
+// `sparse::check_pair` does, and then with ROOM. So do the next two.
+pub fn add(
+    dims_a: u32,
+    ia: &[u32],
+    va: &[f32],
+    dims_b: u32,
+    ib: &[u32],
+    vb: &[f32],
+    oi: &mut [u32],
+    ov: &mut [f32],
+) -> Merged
+    ensures { λ r. ⌜ Sums Add (vector «dims_a» (now (ia .entry)) (now (va .entry))) (vector «dims_b» (now (ib .entry)) (now (vb .entry))) (now (oi .entry)) (now (ov .entry)) r (now (oi .exit)) (now (ov .exit)) ⌝ }
+{
+    sum_of(Op::Add, dims_a, ia, va, dims_b, ib, vb, oi, ov)
+}
+
+// Writes a - b.
+pub fn sub(
+    dims_a: u32,
+    ia: &[u32],
+    va: &[f32],
+    dims_b: u32,
+    ib: &[u32],
+    vb: &[f32],
+    oi: &mut [u32],
+    ov: &mut [f32],
+) -> Merged
+    ensures { λ r. ⌜ Sums Sub (vector «dims_a» (now (ia .entry)) (now (va .entry))) (vector «dims_b» (now (ib .entry)) (now (vb .entry))) (now (oi .entry)) (now (ov .entry)) r (now (oi .exit)) (now (ov .exit)) ⌝ }
+{
+    sum_of(Op::Sub, dims_a, ia, va, dims_b, ib, vb, oi, ov)
+}
+
+// Writes a * b.
+pub fn mul(
+    dims_a: u32,
+    ia: &[u32],
+    va: &[f32],
+    dims_b: u32,
+    ib: &[u32],
+    vb: &[f32],
+    oi: &mut [u32],
+    ov: &mut [f32],
+) -> Merged
+    ensures { λ r. ⌜ Products (vector «dims_a» (now (ia .entry)) (now (va .entry))) (vector «dims_b» (now (ib .entry)) (now (vb .entry))) (now (oi .entry)) (now (ov .entry)) r (now (oi .exit)) (now (ov .exit)) ⌝ }
+{
+    if let Checked::Refused(number, place) = sparse::check_pair(dims_a, ia, va, dims_b, ib, vb) {
+        return Merged::Refused(number, place);
+    }
+    let room = sparse::smaller(ia.len(), ib.len());
+    if oi.len() < room {
+        return Merged::Refused(refusal::ROOM, room);
+    }
+    if ov.len() < room {
+        return Merged::Refused(refusal::ROOM, room);
+    }
+    let m = multiply(dims_a, ia, va, ib, vb, oi, ov);
+    Merged::Done(dims_a, m.len, m.turns)
+}

@@ -1,0 +1,241 @@
+// What a sparse vector is: its dims, its indexes and its values; a place that no index names is empty.
+// Here are its checks, and one turn of a walk over two vectors, which the loops above share.
+
+use refusal::Checked;
+ghost use mathlib.Core.Path.{_≡_};
+ghost use Prim.Native.Nat.{_<_, min};
+ghost use lib.ListN.{length};
+ghost use Rattle.places.specs.Below.{countBelow};
+ghost use Rattle.places.specs.Search.{firstFrom};
+ghost use Rattle.refusal.specs.Answers.{Checks};
+ghost use Rattle.sparse.specs.Cells.{keep};
+ghost use Rattle.sparse.specs.Vectors.{vector};
+ghost use Rattle.sparse.specs.Calls.{falls, zeroAt, checkedOf, eachOf, pairOf};
+ghost use Rattle.sparse.specs.Walk.{Standing, Turned, Put};
+
+// What stands at a place.
+pub enum Cell {
+    Empty,
+    Full(f32),
+}
+
+// How many indexes are not above the one before.
+fn count_falls(indexes: &[u32]) -> usize
+    ensures { λ r. ⌜ r ≡ countBelow (falls (now (indexes .entry))) (length (now (indexes .entry))) ⌝ }
+{
+    let mut n: usize = 0;
+    let mut i: usize = 1;
+    while i < indexes.len() {
+        let low = indexes[i - 1];
+        let high = indexes[i];
+        if high <= low {
+            n += 1;
+        }
+        i += 1;
+    }
+    n
+}
+
+// The first entry whose index is not above the one before, or the length.
+fn first_fall(indexes: &[u32]) -> usize
+    ensures { λ r. ⌜ r ≡ firstFrom (falls (now (indexes .entry))) (length (now (indexes .entry))) 0 ⌝ }
+{
+    let mut i: usize = 1;
+    while i < indexes.len() {
+        let low = indexes[i - 1];
+        let high = indexes[i];
+        if high <= low {
+            return i;
+        }
+        i += 1;
+    }
+    indexes.len()
+}
+
+// How many values are zero.
+fn count_zeros(values: &[f32]) -> usize
+    ensures { λ r. ⌜ r ≡ countBelow (zeroAt (now (values .entry))) (length (now (values .entry))) ⌝ }
+{
+    let mut n: usize = 0;
+    let mut i: usize = 0;
+    while i < values.len() {
+        let v = values[i];
+        if v == 0.0 {
+            n += 1;
+        }
+        i += 1;
+    }
+    n
+}
+
+// The first entry whose value is zero, or the length.
+fn first_zero(values: &[f32]) -> usize
+    ensures { λ r. ⌜ r ≡ firstFrom (zeroAt (now (values .entry))) (length (now (values .entry))) 0 ⌝ }
+{
+    let mut i: usize = 0;
+    while i < values.len() {
+        let v = values[i];
+        if v == 0.0 {
+            return i;
+        }
+        i += 1;
+    }
+    i
+}
+
+// Whether these are a sparse vector of `dims` places. Refuses with DIMS, LENGTH, ORDER, INDEX, ZERO.
+// Bad entries are counted, and looked for only where there is one.
+pub fn check(dims: u32, indexes: &[u32], values: &[f32]) -> Checked
+    ensures { λ r. ⌜ Checks (checkedOf (vector dims (now (indexes .entry)) (now (values .entry)))) r ⌝ }
+{
+    if dims == 0 {
+        return Checked::Refused(refusal::DIMS, 0);
+    }
+    if 1048575 < dims {
+        return Checked::Refused(refusal::DIMS, 0);
+    }
+    if indexes.len() != values.len() {
+        return Checked::Refused(refusal::LENGTH, 0);
+    }
+    if count_falls(indexes) != 0 {
+        return Checked::Refused(refusal::ORDER, first_fall(indexes));
+    }
+    if indexes.len() != 0 {
+        let last = indexes.len() - 1;
+        let top = indexes[last];
+        if dims <= top {
+            return Checked::Refused(refusal::INDEX, last);
+        }
+    }
+    if count_zeros(values) != 0 {
+        return Checked::Refused(refusal::ZERO, first_zero(values));
+    }
+    Checked::Valid
+}
+
+// The first refusal of two vectors: left, right.
+pub fn check_each(
+    dims_a: u32,
+    ia: &[u32],
+    va: &[f32],
+    dims_b: u32,
+    ib: &[u32],
+    vb: &[f32],
+) -> Checked
+    ensures { λ r. ⌜ Checks (eachOf (vector «dims_a» (now (ia .entry)) (now (va .entry))) (vector «dims_b» (now (ib .entry)) (now (vb .entry)))) r ⌝ }
+{
+    if let Checked::Refused(number, place) = check(dims_a, ia, va) {
+        return Checked::Refused(number, place);
+    }
+    check(dims_b, ib, vb)
+}
+
+// The first refusal of two vectors that have to have equal dims: left, right, DIFFER.
+pub fn check_pair(
+    dims_a: u32,
+    ia: &[u32],
+    va: &[f32],
+    dims_b: u32,
+    ib: &[u32],
+    vb: &[f32],
+) -> Checked
+    ensures { λ r. ⌜ Checks (pairOf (vector «dims_a» (now (ia .entry)) (now (va .entry))) (vector «dims_b» (now (ib .entry)) (now (vb .entry)))) r ⌝ }
+{
+    if let Checked::Refused(number, place) = check_each(dims_a, ia, va, dims_b, ib, vb) {
+        return Checked::Refused(number, place);
+    }
+    if dims_a != dims_b {
+        return Checked::Refused(refusal::DIFFER, 0);
+    }
+    Checked::Valid
+}
+
+// One turn of a walk over two vectors: the next place, what each holds there, and their next entries.
+pub struct Turn {
+    pub place: u32,
+    pub x: Cell,
+    pub y: Cell,
+    pub p: usize,
+    pub q: usize,
+}
+
+// The next turn of a walk that has come to the entries p and q and has one left. For the loops of the
+// crates above, not for users.
+pub fn one_turn(ia: &[u32], va: &[f32], p: usize, ib: &[u32], vb: &[f32], q: usize) -> Turn
+    requires { ⌜ Standing (now ia) (now va) p (now ib) (now vb) q ⌝ }
+    ensures { λ r. ⌜ Turned (now (ia .entry)) (now (va .entry)) p (now (ib .entry)) (now (vb .entry)) q r ⌝ }
+{
+    if ia.len() <= p {
+        return Turn {
+            place: ib[q],
+            x: Cell::Empty,
+            y: Cell::Full(vb[q]),
+            p: p,
+            q: q + 1,
+        };
+    }
+    let i = ia[p];
+    if ib.len() <= q {
+        return Turn {
+            place: i,
+            x: Cell::Full(va[p]),
+            y: Cell::Empty,
+            p: p + 1,
+            q: q,
+        };
+    }
+    let j = ib[q];
+    if i < j {
+        return Turn {
+            place: i,
+            x: Cell::Full(va[p]),
+            y: Cell::Empty,
+            p: p + 1,
+            q: q,
+        };
+    }
+    if j < i {
+        return Turn {
+            place: j,
+            x: Cell::Empty,
+            y: Cell::Full(vb[q]),
+            p: p,
+            q: q + 1,
+        };
+    }
+    Turn {
+        place: i,
+        x: Cell::Full(va[p]),
+        y: Cell::Full(vb[q]),
+        p: p + 1,
+        q: q + 1,
+    }
+}
+
+// Nothing for a zero of either sign, and else the value.
+pub fn kept(v: f32) -> Cell
+    ensures { λ r. ⌜ r ≡ keep v ⌝ }
+{
+    if v == 0.0 { Cell::Empty } else { Cell::Full(v) }
+}
+
+// Stores what stands at a place as the entry n, if it is full, and returns the next entry. For the
+// loops of the crates above, not for users.
+pub fn put(oi: &mut [u32], ov: &mut [f32], n: usize, place: u32, z: Cell) -> usize
+    requires { ⌜ (n < length (now oi)) × (n < length (now ov)) ⌝ }
+    ensures { λ r. ⌜ Put z place n (now (oi .entry)) (now (ov .entry)) r (now (oi .exit)) (now (ov .exit)) ⌝ }
+{
+    if let Cell::Full(v) = z {
+        oi[n] = place;
+        ov[n] = v;
+        return n + 1;
+    }
+    n
+}
+
+// The smaller of two lengths.
+pub fn smaller(a: usize, b: usize) -> usize
+    ensures { λ r. ⌜ r ≡ min a b ⌝ }
+{
+    if a <= b { a } else { b }
+}
