@@ -5,5 +5,5 @@ use Rattle.sparse.specs.Walk.{Sound}
 
 -- two vectors of equal dims that passed
 pub record Ready (a b : Vector) : Type 0 where
-  pub left : Sound (a .dims) (a .indexes) (a .values)
-  pub right : Sound (a .dims) (b .indexes) (b .values)
+  pub left : Sound a
+  pub right : Sound b

@@ -10,8 +10,8 @@ use Rattle.merges.specs.declared.Both.{Both}
 
 -- two vectors of equal dims that passed, and room for n entries
 pub record Ready (a b : Vector) (n : ℕ) (oi : List ℕ) (ov : List Float) : Type 0 where
-  pub left : Sound (a .dims) (a .indexes) (a .values)
-  pub right : Sound (a .dims) (b .indexes) (b .values)
+  pub left : Sound a
+  pub right : Sound b
   pub room : n ≤ length oi
   pub room′ : n ≤ length ov
 

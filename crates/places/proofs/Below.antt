@@ -3,11 +3,13 @@ use Prim.Native.Nat.{ℕ, zero, suc, _+_, _≤_, _<_}
 use native.Mathlib.Nat.{eq-or-lt-of-le, le-of-suc-le-suc}
 use native.Mathlib.Numerals.{add-one}
 use native.Mathlib.Omega.{arith}
-use mathlib.Core.Bool.{Bool, true, false, _||_, or-true, true≢false}
+use mathlib.Core.Bool.{Bool, true, false, not, _||_, or-true, true≢false}
 use mathlib.Core.List.{List, [], _∷_, _++_, append-assoc}
 use mathlib.Core.Logic.{_⊎_, inl, inr, ⊎-elim}
 use native.Mathlib.Decide.{decLe}
 use mathlib.Core.Path.{_≡_, refl, ap, ap₂, _∙_}
+use borrow.Author.Tests.{ne-eqb}
+use lib.Dec.{eqb}
 use lib.ListN.{length, getD, set, drop, length-append, length-drop, List·getD-append}
 use lib.Seq.{drop-cons, set-at, getD-at}
 use Rattle.places.specs.Below.{one, countBelow, anyBelow, listBelow}
@@ -29,6 +31,15 @@ still g k (suc m) le same =
 pub count-none : (t : ℕ → Bool) (i : ℕ) → t i ≡ false → countBelow t (suc i) ≡ countBelow t i
 unfolding countBelow
 count-none t i e = rw e (omega arith)
+
+pub count-zero : (t : ℕ → Bool) → countBelow t 0 ≡ 0
+unfolding countBelow
+count-zero t = refl
+
+-- one place more
+pub count-more : (t : ℕ → Bool) (i n : ℕ) → n ≡ countBelow t i → n + one (t i) ≡ countBelow t (i + 1)
+unfolding countBelow
+count-more t i n e = let s : i + 1 ≡ suc i = omega arith in rw (s, e)
 
 -- no place from k up to m passes the test
 pub count-rest : (t : ℕ → Bool) (k m : ℕ) → k ≤ m → ((i : ℕ) → k ≤ i → i < m → t i ≡ false) → countBelow t m ≡ countBelow t k
@@ -74,6 +85,20 @@ any-false t (suc n) i e h = go (anyBelow t n) (t n) refl refl e (any-false t n i
     go false false p q r rest = ⊎-elim (λ same. rw same q) (λ l. rest p (omega arith)) (eq-or-lt-of-le (le-of-suc-le-suc h))
     go false true p q r rest = absurd (true≢false r)
     go true b p q r rest = absurd (true≢false r)
+
+-- a count tells whether there is one
+pub any-count : (t : ℕ → Bool) (n : ℕ) → anyBelow t n ≡ not (eqb (countBelow t n) 0)
+unfolding anyBelow countBelow
+any-count t zero = refl
+any-count t (suc n) = go (t n) (countBelow t n) (any-count t n)
+  where
+    go : (b : Bool) (m : ℕ) → anyBelow t n ≡ not (eqb m 0) → (anyBelow t n || b) ≡ not (eqb (m + one b) 0)
+    go true m e = rw (or-true, ne-eqb (m + 1) 0 (λ z. omega arith))
+    go false m e = let z : m + 0 ≡ m = omega arith in rw z (go′ (anyBelow t n) e)
+      where
+        go′ : (a : Bool) → a ≡ not (eqb m 0) → (a || false) ≡ not (eqb m 0)
+        go′ true q = q
+        go′ false q = q
 
 pub any-none : (t : ℕ → Bool) (n : ℕ) → ((i : ℕ) → i < n → t i ≡ false) → anyBelow t n ≡ false
 unfolding anyBelow

@@ -40,7 +40,7 @@ checkedOf v =
     (refuse (not (eqb (size v) (length (v .values)))) LENGTH 0
     (refuse (anyBelow (falls (v .indexes)) (size v)) ORDER (firstFrom (falls (v .indexes)) (size v) 0)
     (refuse (tooHigh (v .dims) (v .indexes)) INDEX (size v - 1)
-    (refuse (anyBelow (zeroAt (v .values)) (size v)) ZERO (firstFrom (zeroAt (v .values)) (size v) 0)
+    (refuse (anyBelow (zeroAt (v .values)) (length (v .values))) ZERO (firstFrom (zeroAt (v .values)) (length (v .values)) 0)
     Valid))))
 
 -- "Left vector first (1 to 6), then right"

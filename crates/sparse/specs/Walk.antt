@@ -1,10 +1,13 @@
 -- What the walk over two vectors' entries goes by, and what its parts promise to the loops. A user's promises do not cite these.
 use Prim.Native.Nat.{ℕ, suc, _+_, _≤_, _<_}
+use mathlib.Core.Bool.{false}
 use mathlib.Core.List.{List}
 use mathlib.Core.Logic.{_⊎_}
 use mathlib.Core.Path.{_≡_}
 use lib.ListN.{length, getD, set}
 use lib.Ieee.{Float, nan}
+use Rattle.sparse.specs.Vectors.{Vector, size}
+use Rattle.sparse.specs.Calls.{zeroAt}
 use Rattle.sparse.specs.declared.Cell.{Cell}
 use Rattle.sparse.specs.declared.Cell.the-variants.{Empty, Full}
 use Rattle.sparse.specs.declared.Turn.{Turn}
@@ -64,9 +67,11 @@ pub record Split (is : List ℕ) (p k : ℕ) : Type 0 where
   pub low : (j : ℕ) → j < p → getD is j 0 < k
   pub high : (j : ℕ) → p ≤ j → j < length is → k ≤ getD is j 0
 
--- what the loops need of a vector that passed its tests
-pub record Sound (d : ℕ) (is : List ℕ) (vs : List Float) : Type 0 where
-  pub even : length is ≡ length vs
-  pub rising : Rising is
-  pub below : (j : ℕ) → j < length is → getD is j 0 < d
-  pub high : d ≤ 1048575
+-- what a vector that passed its tests is
+pub record Sound (v : Vector) : Type 0 where
+  pub low : 1 ≤ v .dims
+  pub high : v .dims ≤ 1048575
+  pub even : size v ≡ length (v .values)
+  pub rising : Rising (v .indexes)
+  pub below : (j : ℕ) → j < size v → getD (v .indexes) j 0 < v .dims
+  pub nonzero : (j : ℕ) → j < size v → zeroAt (v .values) j ≡ false

@@ -5,18 +5,25 @@ use refusal::Checked;
 ghost use mathlib.Core.Path.{_≡_};
 ghost use Prim.Native.Nat.{_<_, min};
 ghost use lib.ListN.{length};
-ghost use Rattle.places.specs.Below.{countBelow};
+ghost use Rattle.places.specs.Below.{one, countBelow};
 ghost use Rattle.places.specs.Search.{firstFrom};
 ghost use Rattle.refusal.specs.Answers.{Checks};
 ghost use Rattle.sparse.specs.Cells.{keep};
 ghost use Rattle.sparse.specs.Vectors.{vector};
-ghost use Rattle.sparse.specs.Calls.{falls, zeroAt, checkedOf, eachOf, pairOf};
+ghost use Rattle.sparse.specs.Calls.{falls, tooHigh, zeroAt, checkedOf, eachOf, pairOf};
 ghost use Rattle.sparse.specs.Walk.{Standing, Turned, Put};
 
 // What stands at a place.
 pub enum Cell {
     Empty,
     Full(f32),
+}
+
+// 1 for true.
+fn one_if(test: bool) -> usize
+    ensures { λ r. ⌜ r ≡ one test ⌝ }
+{
+    if test { 1 } else { 0 }
 }
 
 // How many indexes are not above the one before.
@@ -28,9 +35,7 @@ fn count_falls(indexes: &[u32]) -> usize
     while i < indexes.len() {
         let low = indexes[i - 1];
         let high = indexes[i];
-        if high <= low {
-            n += 1;
-        }
+        n += one_if(high <= low);
         i += 1;
     }
     n
@@ -52,6 +57,16 @@ fn first_fall(indexes: &[u32]) -> usize
     indexes.len()
 }
 
+// Whether the last index is at or above `dims`.
+fn too_high(dims: u32, indexes: &[u32]) -> bool
+    ensures { λ r. ⌜ r ≡ tooHigh dims (now (indexes .entry)) ⌝ }
+{
+    if indexes.len() == 0 {
+        return false;
+    }
+    dims <= indexes[indexes.len() - 1]
+}
+
 // How many values are zero.
 fn count_zeros(values: &[f32]) -> usize
     ensures { λ r. ⌜ r ≡ countBelow (zeroAt (now (values .entry))) (length (now (values .entry))) ⌝ }
@@ -60,9 +75,7 @@ fn count_zeros(values: &[f32]) -> usize
     let mut i: usize = 0;
     while i < values.len() {
         let v = values[i];
-        if v == 0.0 {
-            n += 1;
-        }
+        n += one_if(v == 0.0);
         i += 1;
     }
     n
@@ -100,12 +113,8 @@ pub fn check(dims: u32, indexes: &[u32], values: &[f32]) -> Checked
     if count_falls(indexes) != 0 {
         return Checked::Refused(refusal::ORDER, first_fall(indexes));
     }
-    if indexes.len() != 0 {
-        let last = indexes.len() - 1;
-        let top = indexes[last];
-        if dims <= top {
-            return Checked::Refused(refusal::INDEX, last);
-        }
+    if too_high(dims, indexes) {
+        return Checked::Refused(refusal::INDEX, indexes.len() - 1);
     }
     if count_zeros(values) != 0 {
         return Checked::Refused(refusal::ZERO, first_zero(values));

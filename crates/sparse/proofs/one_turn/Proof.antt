@@ -1,124 +1,127 @@
+use mathlib.Core.Logic.{inl, inr}
+use mathlib.Core.Path.{refl}
+use native.Mathlib.Omega.{arith}
 use borrow.Author.Needs.{needs}
 use Rattle.sparse.proofs.one_turn.Statement.{statement}
 use Rattle.sparse.proofs.one_turn.Tie as tie
 use Rattle.sparse.proofs.one_turn.Reads as reads
 use Rattle.sparse.proofs.one_turn.Lts as lts
 
--- src/lib.rt:170:20
+-- src/lib.rt:173:20
 mul-t11 : tie.Need-mul-t11
 mul-t11 c = search needs
 
--- src/lib.rt:170:20
+-- src/lib.rt:173:20
 shared-slice-read-t13 : tie.Need-shared-slice-read-t13
 shared-slice-read-t13 c = search needs
 
--- src/lib.rt:172:27
+-- src/lib.rt:175:27
 mul-t15 : tie.Need-mul-t15
 mul-t15 c = search needs
 
--- src/lib.rt:172:27
+-- src/lib.rt:175:27
 shared-slice-read-t17 : tie.Need-shared-slice-read-t17
 shared-slice-read-t17 c = search needs
 
--- src/lib.rt:174:16
+-- src/lib.rt:177:16
 add-t19 : tie.Need-add-t19
 add-t19 c = search needs
 
--- src/lib.rt:169:9
+-- src/lib.rt:172:9
 returns : tie.Need-returns
-returns c = ?
+returns c = record { left = inr (λ h. omega arith, refl, refl); right = inl (omega arith, refl, refl, refl); some = omega arith }
 
--- src/lib.rt:177:13
+-- src/lib.rt:180:13
 mul-i : tie.Need-mul-i
 mul-i c = search needs
 
--- src/lib.rt:177:13
+-- src/lib.rt:180:13
 shared-slice-read-i : tie.Need-shared-slice-read-i
 shared-slice-read-i c = search needs
 
--- src/lib.rt:181:27
+-- src/lib.rt:184:27
 mul-t22 : tie.Need-mul-t22
 mul-t22 c = search needs
 
--- src/lib.rt:181:27
+-- src/lib.rt:184:27
 shared-slice-read-t24 : tie.Need-shared-slice-read-t24
 shared-slice-read-t24 c = search needs
 
--- src/lib.rt:183:16
+-- src/lib.rt:186:16
 add-t27 : tie.Need-add-t27
 add-t27 c = search needs
 
--- src/lib.rt:179:9
+-- src/lib.rt:182:9
 returns-2 : tie.Need-returns-2
-returns-2 c = ?
+returns-2 c = record { left = inl (omega arith, refl, refl, refl); right = inr (λ h. omega arith, refl, refl); some = omega arith }
 
--- src/lib.rt:187:13
+-- src/lib.rt:190:13
 mul-j : tie.Need-mul-j
 mul-j c = search needs
 
--- src/lib.rt:187:13
+-- src/lib.rt:190:13
 shared-slice-read-j : tie.Need-shared-slice-read-j
 shared-slice-read-j c = search needs
 
--- src/lib.rt:191:27
+-- src/lib.rt:194:27
 mul-t29 : tie.Need-mul-t29
 mul-t29 c = search needs
 
--- src/lib.rt:191:27
+-- src/lib.rt:194:27
 shared-slice-read-t31 : tie.Need-shared-slice-read-t31
 shared-slice-read-t31 c = search needs
 
--- src/lib.rt:193:16
+-- src/lib.rt:196:16
 add-t34 : tie.Need-add-t34
 add-t34 c = search needs
 
--- src/lib.rt:189:9
+-- src/lib.rt:192:9
 returns-3 : tie.Need-returns-3
-returns-3 c = ?
+returns-3 c = record { left = inl (omega arith, refl, refl, refl); right = inr (λ h. omega arith, refl, refl); some = omega arith }
 
--- src/lib.rt:201:27
+-- src/lib.rt:204:27
 mul-t36 : tie.Need-mul-t36
 mul-t36 c = search needs
 
--- src/lib.rt:201:27
+-- src/lib.rt:204:27
 shared-slice-read-t38 : tie.Need-shared-slice-read-t38
 shared-slice-read-t38 c = search needs
 
--- src/lib.rt:203:16
+-- src/lib.rt:206:16
 add-t40 : tie.Need-add-t40
 add-t40 c = search needs
 
--- src/lib.rt:198:9
+-- src/lib.rt:201:9
 returns-4 : tie.Need-returns-4
-returns-4 c = ?
+returns-4 c = record { left = inr (λ h. omega arith, refl, refl); right = inl (omega arith, refl, refl, refl); some = omega arith }
 
--- src/lib.rt:208:23
+-- src/lib.rt:211:23
 mul-t9 : tie.Need-mul-t9
 mul-t9 c = search needs
 
--- src/lib.rt:208:23
+-- src/lib.rt:211:23
 shared-slice-read-t42 : tie.Need-shared-slice-read-t42
 shared-slice-read-t42 c = search needs
 
--- src/lib.rt:209:23
+-- src/lib.rt:212:23
 mul-t44 : tie.Need-mul-t44
 mul-t44 c = search needs
 
--- src/lib.rt:209:23
+-- src/lib.rt:212:23
 shared-slice-read-t46 : tie.Need-shared-slice-read-t46
 shared-slice-read-t46 c = search needs
 
--- src/lib.rt:210:12
+-- src/lib.rt:213:12
 add-t48 : tie.Need-add-t48
 add-t48 c = search needs
 
--- src/lib.rt:211:12
+-- src/lib.rt:214:12
 add-t49 : tie.Need-add-t49
 add-t49 c = search needs
 
--- src/lib.rt:164:1
+-- src/lib.rt:167:1
 returns-5 : tie.Need-returns-5
-returns-5 c = ?
+returns-5 c = record { left = inl (omega arith, refl, refl, refl); right = inl (omega arith, omega arith, refl, refl); some = omega arith }
 
 pub one-turn-spec : {M : Type 1} → statement M
 one-turn-spec =

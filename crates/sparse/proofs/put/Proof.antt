@@ -38,7 +38,9 @@ same-length-2 c = search needs
 
 -- src/lib.rt:231:9
 returns : tie.Need-returns
-returns c = ?
+returns c =
+    let e = c .before .z .given .1 in
+    record { count = rw e; indexes = rw e; values = rw e }
 
 enum-told : tie.Need-enum-told
 enum-told c = search needs

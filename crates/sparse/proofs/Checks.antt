@@ -1,0 +1,159 @@
+-- What a check answers, and what is known of a vector that passed. Assumes nothing.
+use Prim.Native.Nat.{ℕ, zero, suc, _-_, _≤_, _<_}
+use native.Mathlib.Nat.{eq-or-lt-of-le, le-of-suc-le-suc}
+use native.Mathlib.Omega.{arith}
+use mathlib.Core.Bool.{Bool, true, false, not, _||_, or-true, true≢false}
+use mathlib.Core.List.{List}
+use mathlib.Core.Logic.{⊎-elim}
+use mathlib.Core.Path.{_≡_, refl, sym, ap, _∙_}
+use lib.Dec.{leb, ltb, eqb}
+use lib.ListN.{length, getD}
+use borrow.Author.Tests.{eq-eqb, ne-eqb, lt-ltb, le-ltb, le-leb, lt-leb, eqb-true, eqb-false, ltb-false, leb-false}
+use Rattle.places.specs.Below.{countBelow, anyBelow}
+use Rattle.places.specs.Search.{firstFrom}
+use Rattle.places.proofs.Below.{le-or-lt, any-count, any-false, any-none}
+use Rattle.refusal.specs.Answers.{refuse}
+use Rattle.refusal.specs.declared.Checked.the-variants.{Valid, Refused}
+use Rattle.refusal.proofs.Chains.{refuse-valid}
+use Rattle.sparse.specs.Vectors.{Vector, size}
+use Rattle.sparse.specs.Calls.{badDims, falls, tooHigh, zeroAt, checkedOf}
+use Rattle.sparse.specs.Walk.{Rising, Sound}
+use Rattle.sparse.proofs.Falls.{rises, falls-at, first-rises}
+
+pub bad-zero : (d : ℕ) → d ≡ 0 → badDims d ≡ true
+bad-zero d e = rw (eq-eqb d 0 e)
+
+pub bad-high : (d : ℕ) → 1048575 < d → badDims d ≡ true
+bad-high d h = rw (lt-ltb 1048575 d h, or-true)
+
+pub some : (n : ℕ) → (n ≡ 0 → ⊥) → 1 ≤ n
+some n h = omega arith
+
+pub good-dims : (d : ℕ) → 1 ≤ d → d ≤ 1048575 → badDims d ≡ false
+good-dims d l h = rw (ne-eqb d 0 (λ e. omega arith), le-ltb 1048575 d h)
+
+pub dims-good : (d : ℕ) → badDims d ≡ false → (1 ≤ d) × (d ≤ 1048575)
+dims-good d e = go (eqb d 0) (ltb 1048575 d) refl refl e
+  where
+    go : (z h : Bool) → eqb d 0 ≡ z → ltb 1048575 d ≡ h → (z || h) ≡ false → (1 ≤ d) × (d ≤ 1048575)
+    go false false ez eh q = (some d (eqb-false d 0 ez), ltb-false 1048575 d eh)
+    go true h ez eh q = absurd (true≢false q)
+    go false true ez eh q = absurd (true≢false q)
+
+not-false : (b : Bool) → not b ≡ false → b ≡ true
+not-false true e = refl
+not-false false e = absurd (true≢false e)
+
+-- a count that is not 0 found one
+some-any : (t : ℕ → Bool) (n : ℕ) → (countBelow t n ≡ 0 → ⊥) → anyBelow t n ≡ true
+some-any t n h = any-count t n ∙ ap not (ne-eqb (countBelow t n) 0 h)
+
+none-any : (t : ℕ → Bool) (n : ℕ) → countBelow t n ≡ 0 → anyBelow t n ≡ false
+none-any t n h = any-count t n ∙ ap not (eq-eqb (countBelow t n) 0 h)
+
+-- an index that is too high is there
+pub high-some : (d : ℕ) (is : List ℕ) → tooHigh d is ≡ true → 1 ≤ length is
+high-some d is e =
+    ⊎-elim (λ h. let f : false ≡ true = rw (le-ltb 0 (length is) h) at e in absurd (true≢false (sym f))) (λ h. h) (le-or-lt (length is) 0)
+
+-- ---- what is refused, test by test
+module _ (v : Vector) where
+  pub refused-dims : badDims (v .dims) ≡ true → checkedOf v ≡ Refused 1 0
+  unfolding checkedOf
+  refused-dims bad = rw bad
+
+  module _ (l : 1 ≤ v .dims) (h : v .dims ≤ 1048575) where
+    pub refused-length : (size v ≡ length (v .values) → ⊥) → checkedOf v ≡ Refused 2 0
+    unfolding checkedOf
+    refused-length other = rw (good-dims (v .dims) l h, ne-eqb (size v) (length (v .values)) other)
+
+    module _ (even : size v ≡ length (v .values)) where
+      pub refused-order : (countBelow (falls (v .indexes)) (size v) ≡ 0 → ⊥) → checkedOf v ≡ Refused 3 (firstFrom (falls (v .indexes)) (size v) 0)
+      unfolding checkedOf
+      refused-order some = rw (good-dims (v .dims) l h, eq-eqb (size v) (length (v .values)) even, some-any (falls (v .indexes)) (size v) some)
+
+      module _ (up : countBelow (falls (v .indexes)) (size v) ≡ 0) where
+        pub refused-index : tooHigh (v .dims) (v .indexes) ≡ true → checkedOf v ≡ Refused 4 (size v - 1)
+        unfolding checkedOf
+        refused-index high =
+            rw (good-dims (v .dims) l h, eq-eqb (size v) (length (v .values)) even, none-any (falls (v .indexes)) (size v) up, high)
+
+        module _ (low : tooHigh (v .dims) (v .indexes) ≡ false) where
+          pub refused-zero : (countBelow (zeroAt (v .values)) (length (v .values)) ≡ 0 → ⊥)
+              → checkedOf v ≡ Refused 5 (firstFrom (zeroAt (v .values)) (length (v .values)) 0)
+          unfolding checkedOf
+          refused-zero some =
+              rw
+              (good-dims (v .dims) l h, eq-eqb (size v) (length (v .values)) even, none-any (falls (v .indexes)) (size v) up, low, some-any (zeroAt (v .values)) (length (v .values)) some)
+
+          pub passes : countBelow (zeroAt (v .values)) (length (v .values)) ≡ 0 → checkedOf v ≡ Valid
+          unfolding checkedOf
+          passes none =
+              rw
+              (good-dims (v .dims) l h, eq-eqb (size v) (length (v .values)) even, none-any (falls (v .indexes)) (size v) up, low, none-any (zeroAt (v .values)) (length (v .values)) none)
+
+-- ---- a vector that passed, and back
+
+-- indexes that rise from each entry to the next
+steps-rise : (is : List ℕ) → ((j : ℕ) → j < length is → falls is j ≡ false) → Rising is
+steps-rise is all i zero h l = absurd (omega arith)
+steps-rise is all i (suc j) h l =
+    let e = sym (falls-at is (suc j) (omega arith)) ∙ all (suc j) l in
+    let before : suc j - 1 ≡ j = omega arith in
+    let up : getD is j 0 < getD is (suc j) 0 = rw before at (leb-false (getD is (suc j) 0) (getD is (suc j - 1) 0) e) in
+    ⊎-elim
+    (λ same. rw same up)
+    (λ less. omega (arith, steps-rise is all i j less (omega arith)))
+    (eq-or-lt-of-le (le-of-suc-le-suc h))
+
+rise-steps : (is : List ℕ) → Rising is → (j : ℕ) → j < length is → falls is j ≡ false
+rise-steps is up zero l = first-rises is zero (omega arith)
+rise-steps is up (suc j) l = rises is (suc j) (omega arith) (up (suc j - 1) (suc j) (omega arith) l)
+
+-- the last index is below d, and so are all
+all-below : (d : ℕ) (is : List ℕ) → Rising is → tooHigh d is ≡ false → (j : ℕ) → j < length is → getD is j 0 < d
+all-below d is up low j l =
+    let e : leb d (getD is (length is - 1) 0) ≡ false = rw (lt-ltb 0 (length is) (omega arith)) at low in
+    let last : getD is (length is - 1) 0 < d = leb-false d (getD is (length is - 1) 0) e in
+    let at-most : j ≤ length is - 1 = omega arith in
+    ⊎-elim
+    (λ same. rw same last)
+    (λ less. omega (arith, up j (length is - 1) less (omega arith)))
+    (eq-or-lt-of-le at-most)
+
+below-all : (d : ℕ) (is : List ℕ) → ((j : ℕ) → j < length is → getD is j 0 < d) → tooHigh d is ≡ false
+below-all d is all =
+    ⊎-elim
+    (λ h. rw (le-ltb 0 (length is) h))
+    (λ h. rw (lt-ltb 0 (length is) h, lt-leb d (getD is (length is - 1) 0) (all (length is - 1) (omega arith))))
+    (le-or-lt (length is) 0)
+
+pub sound : (v : Vector) → checkedOf v ≡ Valid → Sound v
+unfolding checkedOf
+sound v passed =
+    let a = refuse-valid (badDims (v .dims)) 1 0 _ passed in
+    let b = refuse-valid (not (eqb (size v) (length (v .values)))) 2 0 _ (a .1) in
+    let c = refuse-valid (anyBelow (falls (v .indexes)) (size v)) 3 _ _ (b .1) in
+    let d = refuse-valid (tooHigh (v .dims) (v .indexes)) 4 _ _ (c .1) in
+    let e = refuse-valid (anyBelow (zeroAt (v .values)) (length (v .values))) 5 _ _ (d .1) in
+    let up = steps-rise (v .indexes) (λ j l. any-false (falls (v .indexes)) (size v) j (c .0) l) in
+    let even = eqb-true (size v) (length (v .values)) (not-false (eqb (size v) (length (v .values))) (b .0)) in
+    record {
+      low = dims-good (v .dims) (a .0) .0;
+      high = dims-good (v .dims) (a .0) .1;
+      even = even;
+      rising = up;
+      below = all-below (v .dims) (v .indexes) up (d .0);
+      nonzero = λ j l. any-false (zeroAt (v .values)) (length (v .values)) j (e .0) (omega arith);
+    }
+
+pub valid : (v : Vector) → Sound v → checkedOf v ≡ Valid
+unfolding checkedOf
+valid v s =
+    rw (
+      good-dims (v .dims) (s .low) (s .high),
+      eq-eqb (size v) (length (v .values)) (s .even),
+      any-none (falls (v .indexes)) (size v) (rise-steps (v .indexes) (s .rising)),
+      below-all (v .dims) (v .indexes) (s .below),
+      any-none (zeroAt (v .values)) (length (v .values)) (λ j l. s .nonzero j (omega (arith, s .even))),
+    )

@@ -1,0 +1,5 @@
+-- Laws of sparse vectors.
+pub mod Falls
+pub mod Checks
+pub mod Look
+pub mod Entries
