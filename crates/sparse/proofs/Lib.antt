@@ -3,3 +3,4 @@ pub mod Falls
 pub mod Checks
 pub mod Look
 pub mod Entries
+pub mod Walk
