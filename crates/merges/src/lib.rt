@@ -8,10 +8,10 @@ ghost use mathlib.Core.Path.{_≡_};
 ghost use Prim.Native.Nat.{_+_, min};
 ghost use lib.ListN.{length};
 ghost use Rattle.sparse.specs.Vectors.{vector};
-ghost use Rattle.merges.specs.Algebra.{added, subtracted, multiplied, joined, joins, unionTurns, commonTurns};
+ghost use Rattle.merges.specs.Algebra.{added, subtracted, multiplied, joined};
 ghost use Rattle.merges.specs.Calls.{Sums, Products};
-ghost use Rattle.merges.specs.Loops.{Ready, Merged};
-ghost use Rattle.merges.specs.declared.Op.the-variants.{Add, Sub, Mul};
+ghost use Rattle.merges.specs.Loops.{Ready, MergedAll, MergedCommon};
+ghost use Rattle.merges.specs.declared.Op.the-variants.{Add, Sub};
 
 // How two places are put together.
 pub enum Op {
@@ -90,7 +90,7 @@ fn merge(
     ov: &mut [f32],
 ) -> Both
     requires { ⌜ Ready (vector dims (now ia) (now va)) (vector dims (now ib) (now vb)) (length (now ia) + length (now ib)) (now oi) (now ov) ⌝ }
-    ensures { λ r. ⌜ let a = vector dims (now (ia .entry)) (now (va .entry)) in let b = vector dims (now (ib .entry)) (now (vb .entry)) in Merged (joins op a b) (unionTurns a b) (now (oi .entry)) (now (ov .entry)) r (now (oi .exit)) (now (ov .exit)) ⌝ }
+    ensures { λ r. ⌜ MergedAll op (vector dims (now (ia .entry)) (now (va .entry))) (vector dims (now (ib .entry)) (now (vb .entry))) (now (oi .entry)) (now (ov .entry)) r (now (oi .exit)) (now (ov .exit)) ⌝ }
 {
     let mut p: usize = 0;
     let mut q: usize = 0;
@@ -123,7 +123,7 @@ fn multiply(
     ov: &mut [f32],
 ) -> Both
     requires { ⌜ Ready (vector dims (now ia) (now va)) (vector dims (now ib) (now vb)) (min (length (now ia)) (length (now ib))) (now oi) (now ov) ⌝ }
-    ensures { λ r. ⌜ let a = vector dims (now (ia .entry)) (now (va .entry)) in let b = vector dims (now (ib .entry)) (now (vb .entry)) in Merged (joins Mul a b) (commonTurns a b) (now (oi .entry)) (now (ov .entry)) r (now (oi .exit)) (now (ov .exit)) ⌝ }
+    ensures { λ r. ⌜ MergedCommon (vector dims (now (ia .entry)) (now (va .entry))) (vector dims (now (ib .entry)) (now (vb .entry))) (now (oi .entry)) (now (ov .entry)) r (now (oi .exit)) (now (ov .exit)) ⌝ }
 {
     let mut p: usize = 0;
     let mut q: usize = 0;

@@ -41,6 +41,10 @@ pub count-more : (t : ℕ → Bool) (i n : ℕ) → n ≡ countBelow t i → n +
 unfolding countBelow
 count-more t i n e = let s : i + 1 ≡ suc i = omega arith in rw (s, e)
 
+pub count-hit : (t : ℕ → Bool) (i n : ℕ) → t i ≡ true → n ≡ countBelow t i → n + 1 ≡ countBelow t (suc i)
+unfolding countBelow
+count-hit t i n h e = rw (h, e)
+
 -- no place from k up to m passes the test
 pub count-rest : (t : ℕ → Bool) (k m : ℕ) → k ≤ m → ((i : ℕ) → k ≤ i → i < m → t i ≡ false) → countBelow t m ≡ countBelow t k
 count-rest t k m le empty = still (countBelow t) k m le (λ i a b. count-none t i (empty i a b))

@@ -1,5 +1,5 @@
 -- What a check answers, and what is known of a vector that passed. Assumes nothing.
-use Prim.Native.Nat.{ℕ, zero, suc, _-_, _≤_, _<_}
+use Prim.Native.Nat.{ℕ, zero, suc, _-_, _≤_, _<_, zero-le}
 use native.Mathlib.Nat.{eq-or-lt-of-le, le-of-suc-le-suc}
 use native.Mathlib.Omega.{arith}
 use mathlib.Core.Bool.{Bool, true, false, not, _||_, or-true, true≢false}
@@ -157,3 +157,16 @@ valid v s =
       below-all (v .dims) (v .indexes) (s .below),
       any-none (zeroAt (v .values)) (length (v .values)) (λ j l. s .nonzero j (omega (arith, s .even))),
     )
+
+-- indexes that rise are at least their places
+index-least : (is : List ℕ) → Rising is → (j : ℕ) → j < length is → j ≤ getD is j 0
+index-least is up zero h = zero-le
+index-least is up (suc j) h = omega (arith, index-least is up j (omega arith), up j (suc j) (omega arith) h)
+
+-- no more entries than places
+pub size-most : {v : Vector} → Sound v → size v ≤ v .dims
+size-most {v} s =
+    ⊎-elim
+    (λ h. omega arith)
+    (λ h. omega (arith, index-least (v .indexes) (s .rising) (size v - 1) (omega arith), s .below (size v - 1) (omega arith)))
+    (le-or-lt (size v) 0)

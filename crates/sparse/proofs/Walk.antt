@@ -21,8 +21,8 @@ use Rattle.sparse.proofs.Look.{look-end, look-gap, look-met, split-star
 -- ---- one vector, whose entry p is the first from the place k on, and a turn to a place m from k on
 module _ {v : Vector} (s : Sound v) {p k m : ℕ} {x : Cell} {p′ : ℕ} (cut : Split (v .indexes) p k) (t : Taken (v .indexes) (v .values) p m x p′) where
   -- the next entry is not below m
-  next : p < size v → m ≤ getD (v .indexes) p 0
-  next h = ⊎-elim (λ e. omega (arith, e .1)) (λ e. omega (arith, e .0 h)) t
+  pub taken-next : p < size v → m ≤ getD (v .indexes) p 0
+  taken-next h = ⊎-elim (λ e. omega (arith, e .1)) (λ e. omega (arith, e .0 h)) t
 
   -- where an entry is taken its index is m
   taken-reach : p < p′ → k ≤ m
@@ -36,7 +36,7 @@ module _ {v : Vector} (s : Sound v) {p k m : ℕ} {x : Cell} {p′ : ℕ} (cut :
 
   module _ (le : k ≤ m) where
     taken-gap : (i : ℕ) → k ≤ i → i < m → at v i ≡ Empty
-    taken-gap = look-gap (v .indexes) (v .values) (s .rising) p k cut m le next
+    taken-gap = look-gap (v .indexes) (v .values) (s .rising) p k cut m le taken-next
 
     taken-cell : at v m ≡ x
     taken-cell =
@@ -64,7 +64,7 @@ abbrev pub Quiet : Vector → Vector → (ℕ → Type 0) → Type 0
 Quiet a b P = (i : ℕ) → at a i ≡ Empty → at b i ≡ Empty → P i → P (suc i)
 
 -- what is kept from each place to the next holds from k up to m
-kept-up : (P : ℕ → Type 0) (k m : ℕ) → k ≤ m → ((i : ℕ) → k ≤ i → i < m → P i → P (suc i)) → P k → P m
+pub kept-up : (P : ℕ → Type 0) (k m : ℕ) → k ≤ m → ((i : ℕ) → k ≤ i → i < m → P i → P (suc i)) → P k → P m
 kept-up P k zero le keep h = let e : k ≡ 0 = omega arith in rw (← e) h
 kept-up P k (suc m) le keep h =
     ⊎-elim

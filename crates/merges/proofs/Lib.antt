@@ -1,0 +1,3 @@
+-- Laws of merges.
+pub mod Made
+pub mod Common

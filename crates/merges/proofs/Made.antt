@@ -1,0 +1,99 @@
+-- What a merge has made by the time it stands at a place: the entries and the turns of the places below. Assumes nothing.
+use Prim.Native.Nat.{ℕ, suc, _+_, _≤_, _<_}
+use native.Mathlib.Omega.{arith}
+use mathlib.Core.List.{List}
+use mathlib.Core.Path.{_≡_, refl, sym, ap₂, _∙_}
+use lib.ListN.{length}
+use lib.Ieee.{Float}
+use Rattle.places.specs.Below.{countBelow}
+use Rattle.places.proofs.Below.{count-none, count-zero, count-hit}
+use Rattle.sparse.specs.Vectors.{Vector, size, at, vectorOf, inUnion}
+use Rattle.sparse.specs.Walk.{Turned, Put, Sound}
+use Rattle.sparse.specs.declared.Cell.{Cell}
+use Rattle.sparse.specs.declared.Cell.the-variants.{Empty}
+use Rattle.sparse.specs.declared.Turn.{Turn}
+use Rattle.sparse.proofs.Entries.{indexes-empty, values-empty, put-most, Written, written-none, written-at, written-lengths, written-more}
+use Rattle.sparse.proofs.Walk.{Quiet, Going, going-start, going-more, going-end, left-cell, right-cell, in-union, place-below}
+use Rattle.merges.specs.Algebra.{joined}
+use Rattle.merges.specs.Loops.{Ready, Merged, MergedAll}
+use Rattle.merges.specs.declared.Both.{Both}
+use Rattle.merges.specs.declared.Op.{Op}
+use Rattle.merges.specs.declared.Op.the-variants.{Add, Sub, Mul}
+
+-- what two vectors give at the place k
+abbrev pub joinAt : Op → Vector → Vector → ℕ → Cell
+joinAt op a b k = joined op (at a k) (at b k)
+
+pub joined-empty : (op : Op) → joined op Empty Empty ≡ Empty
+joined-empty Add = refl
+joined-empty Sub = refl
+joined-empty Mul = refl
+
+-- the entries below k are written, and the turns are the places below k in the union
+pub record Made (op : Op) (a b : Vector) (oi : List ℕ) (ov : List Float) (oi′ : List ℕ) (ov′ : List Float) (n turns k : ℕ) : Type 0 where
+  pub wrote : Written (joinAt op a b) oi ov oi′ ov′ n k
+  pub turned : turns ≡ countBelow (inUnion a b) k
+
+pub made-start : (op : Op) (a b : Vector) {limit : ℕ} {oi : List ℕ} {ov : List Float} → Going a b limit (Made op a b oi ov oi ov 0 0) 0 0
+made-start op a b = going-start (record { wrote = written-none; turned = sym (count-zero (inUnion a b)) })
+
+module _ {op : Op} {a b : Vector} {oi : List ℕ} {ov : List Float} {oi′ : List ℕ} {ov′ : List Float} {n turns : ℕ} where
+  pub made-quiet : Quiet a b (Made op a b oi ov oi′ ov′ n turns)
+  made-quiet i ea eb m =
+      let e : joinAt op a b i ≡ Empty = rw (ea, eb) (joined-empty op) in
+      record {
+        wrote = written-at (m .wrote) (suc i) (indexes-empty (joinAt op a b) i e) (values-empty (joinAt op a b) i e);
+        turned = m .turned ∙ sym (count-none (inUnion a b) i (rw (ea, eb)));
+      }
+
+  -- one turn more
+  pub made-more : Sound a → Sound b → {limit p q : ℕ} → Going a b limit (Made op a b oi ov oi′ ov′ n turns) p q
+      → {t : Turn} → Turned (a .indexes) (a .values) p (b .indexes) (b .values) q t → t .place < limit
+      → {z : Cell} {n′ : ℕ} {oi″ : List ℕ} {ov″ : List Float} → n < length oi → n < length ov → z ≡ joined op (t .x) (t .y)
+      → Put z (t .place) n oi′ ov′ n′ oi″ ov″ → Going a b limit (Made op a b oi ov oi″ ov″ n′ (turns + 1)) (t .p) (t .q)
+  made-more sa sb g {t} u below ri rv e put =
+      going-more sa sb g u made-quiet below
+      (λ m.
+      record {
+        wrote = written-more (m .wrote) ri rv (e ∙ sym (ap₂ (joined op) (left-cell sa sb g u) (right-cell sa sb g u))) put;
+        turned = count-hit (inUnion a b) (t .place) turns (in-union sa sb g u) (m .turned);
+      })
+
+-- what is made at the end is what is due
+pub made-merged : (op : Op) (a b : Vector) {d : ℕ} (k : ℕ) {oi : List ℕ} {ov : List Float} {oi′ : List ℕ} {ov′ : List Float} {n turns : ℕ}
+    → Written (joinAt op a b) oi ov oi′ ov′ n d → turns ≡ countBelow (inUnion a b) k
+    → Merged (vectorOf d (joinAt op a b)) (countBelow (inUnion a b) k) oi ov (record { len = n; turns = turns }) oi′ ov′
+made-merged op a b k w e =
+    record { count = sym (w .count); turned = e; indexes = rw (w .count) (w .indexes); values = rw (w .count) (w .values) }
+
+-- ---- the walk to the end of both: no more entries and turns than entries passed
+pub record Merging (op : Op) (a b : Vector) (oi : List ℕ) (ov : List Float) (oi′ : List ℕ) (ov′ : List Float) (p q n turns : ℕ) : Type 0 where
+  pub few : n ≤ p + q
+  pub steps : turns ≤ p + q
+  pub going : Going a b (a .dims) (Made op a b oi ov oi′ ov′ n turns) p q
+
+pub merging-start : {op : Op} {a b : Vector} {oi : List ℕ} {ov : List Float} → Merging op a b oi ov oi ov 0 0 0 0
+merging-start {op} {a} {b} = record { few = omega arith; steps = omega arith; going = made-start op a b }
+
+module _ {op : Op} {a b : Vector} {oi : List ℕ} {ov : List Float} (r : Ready a b (size a + size b) oi ov) {oi′ : List ℕ} {ov′ : List Float} {p q n turns : ℕ} (m : Merging op a b oi ov oi′ ov′ p q n turns) where
+  pub passed : p + q ≤ size a + size b
+  passed = omega (arith, m .going .walk .left .within, m .going .walk .right .within)
+
+  pub lengths : (length oi′ ≡ length oi) × (length ov′ ≡ length ov)
+  lengths = written-lengths (m .going .holds .wrote) (omega (arith, m .few, passed, r .room)) (omega (arith, m .few, passed, r .room′))
+
+  pub merging-more : a .dims ≡ b .dims → p + q < size a + size b → {t : Turn} → Turned (a .indexes) (a .values) p (b .indexes) (b .values) q t
+      → {z : Cell} {n′ : ℕ} {oi″ : List ℕ} {ov″ : List Float} → z ≡ joined op (t .x) (t .y) → Put z (t .place) n oi′ ov′ n′ oi″ ov″
+      → Merging op a b oi ov oi″ ov″ (t .p) (t .q) n′ (turns + 1)
+  merging-more same h {t} u {z} e put =
+      record {
+        few = omega (arith, m .few, u .some, put .count, put-most z n);
+        steps = omega (arith, m .steps, u .some);
+        going = made-more (r .left) (r .right) (m .going) u (place-below (r .left) (r .right) (m .going) u same)
+        (omega (arith, m .few, r .room)) (omega (arith, m .few, r .room′)) e put;
+      }
+
+  pub merging-end : size a + size b ≤ p + q → MergedAll op a b oi ov (record { len = n; turns = turns }) oi′ ov′
+  merging-end h =
+      let d = going-end (r .left) (r .right) (m .going) made-quiet h in
+      made-merged op a b (a .dims) (d .wrote) (d .turned)
