@@ -20,8 +20,8 @@ use Rattle.sparse.specs.declared.Turn.{Turn}
 use Rattle.sparse.proofs.Look.{look-end}
 use Rattle.sparse.proofs.Entries.{indexes-empty, values-empty, put-most, Written, written-at, written-lengths}
 use Rattle.sparse.proofs.Walk.{Going, kept-up, taken-next}
-use Rattle.merges.specs.Algebra.{multiplied, commonEnd}
-use Rattle.merges.specs.Loops.{Ready, MergedCommon}
+use Rattle.merges.specs.Algebra.{multiplied, joins, commonEnd, commonTurns}
+use Rattle.merges.specs.Loops.{Ready, Fills}
 use Rattle.merges.specs.declared.Op.the-variants.{Mul}
 use Rattle.merges.proofs.Made.{joinAt, Made, made-start, made-more, made-merged}
 
@@ -112,9 +112,9 @@ module _ {a b : Vector} {oi : List ℕ} {ov : List Float} (r : Ready a b (min (s
         few′ = omega (arith, count, few-right b (t .x) (u .right) (m .few′));
         steps = omega (arith, m .steps, u .some);
         going = made-more (r .left) (r .right) (m .going) u
-        (common-more (r .left) (r .right) ha hb
-        (taken-next (r .left) (m .going .walk .left) (u .left) ha) (taken-next (r .right) (m .going .walk .right) (u .right) hb))
-        (omega (arith, m .few, m .few′, r .room)) (omega (arith, m .few, m .few′, r .room′)) e put;
+            (common-more (r .left) (r .right) ha hb
+            (taken-next (r .left) (m .going .walk .left) (u .left) ha) (taken-next (r .right) (m .going .walk .right) (u .right) hb))
+            (omega (arith, m .few, m .few′, r .room)) (omega (arith, m .few, m .few′, r .room′)) e put;
       }
 
   -- past the end of one nothing is written any more
@@ -125,11 +125,11 @@ module _ {a b : Vector} {oi : List ℕ} {ov : List Float} (r : Ready a b (min (s
       (λ h. rw (look-end (b .indexes) (b .values) q (m .going .front) i (m .going .walk .right) h le) (right-empty (at a i)))
       ended
 
-  pub multiplying-end : (size a ≤ p) ⊎ (size b ≤ q) → MergedCommon a b oi ov (record { len = n; turns = turns }) oi′ ov′
+  pub multiplying-end : (size a ≤ p) ⊎ (size b ≤ q) → Fills (joins Mul a b) (commonTurns a b) oi ov (record { len = n; turns = turns }) oi′ ov′
   multiplying-end ended =
       let g = m .going in
       let same : g .front ≡ commonEnd a b = omega (arith, g .inside, common-reach (r .left) (r .right) (g .walk .left) (g .walk .right) ended) in
       let w = kept-up (Written (joinAt Mul a b) oi ov oi′ ov′ n) (g .front) (a .dims) (omega (arith, g .inside, common-most (r .left) (r .right)))
-              (λ i lo hi w. written-at w (suc i) (indexes-empty (joinAt Mul a b) i (rest ended i lo)) (values-empty (joinAt Mul a b) i (rest ended i lo)))
-              (g .holds .wrote) in
+      (λ i lo hi w. written-at w (suc i) (indexes-empty (joinAt Mul a b) i (rest ended i lo)) (values-empty (joinAt Mul a b) i (rest ended i lo)))
+      (g .holds .wrote) in
       made-merged Mul a b (commonEnd a b) w (rw (← same) (g .holds .turned))

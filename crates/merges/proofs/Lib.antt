@@ -1,3 +1,4 @@
 -- Laws of merges.
 pub mod Made
 pub mod Common
+pub mod Answered

@@ -14,8 +14,8 @@ use Rattle.sparse.specs.declared.Cell.the-variants.{Empty}
 use Rattle.sparse.specs.declared.Turn.{Turn}
 use Rattle.sparse.proofs.Entries.{indexes-empty, values-empty, put-most, Written, written-none, written-at, written-lengths, written-more}
 use Rattle.sparse.proofs.Walk.{Quiet, Going, going-start, going-more, going-end, left-cell, right-cell, in-union, place-below}
-use Rattle.merges.specs.Algebra.{joined}
-use Rattle.merges.specs.Loops.{Ready, Merged, MergedAll}
+use Rattle.merges.specs.Algebra.{joined, joins, unionTurns}
+use Rattle.merges.specs.Loops.{Ready, Fills}
 use Rattle.merges.specs.declared.Both.{Both}
 use Rattle.merges.specs.declared.Op.{Op}
 use Rattle.merges.specs.declared.Op.the-variants.{Add, Sub, Mul}
@@ -62,7 +62,7 @@ module _ {op : Op} {a b : Vector} {oi : List ℕ} {ov : List Float} {oi′ : Lis
 -- what is made at the end is what is due
 pub made-merged : (op : Op) (a b : Vector) {d : ℕ} (k : ℕ) {oi : List ℕ} {ov : List Float} {oi′ : List ℕ} {ov′ : List Float} {n turns : ℕ}
     → Written (joinAt op a b) oi ov oi′ ov′ n d → turns ≡ countBelow (inUnion a b) k
-    → Merged (vectorOf d (joinAt op a b)) (countBelow (inUnion a b) k) oi ov (record { len = n; turns = turns }) oi′ ov′
+    → Fills (vectorOf d (joinAt op a b)) (countBelow (inUnion a b) k) oi ov (record { len = n; turns = turns }) oi′ ov′
 made-merged op a b k w e =
     record { count = sym (w .count); turned = e; indexes = rw (w .count) (w .indexes); values = rw (w .count) (w .values) }
 
@@ -90,10 +90,10 @@ module _ {op : Op} {a b : Vector} {oi : List ℕ} {ov : List Float} (r : Ready a
         few = omega (arith, m .few, u .some, put .count, put-most z n);
         steps = omega (arith, m .steps, u .some);
         going = made-more (r .left) (r .right) (m .going) u (place-below (r .left) (r .right) (m .going) u same)
-        (omega (arith, m .few, r .room)) (omega (arith, m .few, r .room′)) e put;
+            (omega (arith, m .few, r .room)) (omega (arith, m .few, r .room′)) e put;
       }
 
-  pub merging-end : size a + size b ≤ p + q → MergedAll op a b oi ov (record { len = n; turns = turns }) oi′ ov′
+  pub merging-end : size a + size b ≤ p + q → Fills (joins op a b) (unionTurns a b) oi ov (record { len = n; turns = turns }) oi′ ov′
   merging-end h =
       let d = going-end (r .left) (r .right) (m .going) made-quiet h in
       made-merged op a b (a .dims) (d .wrote) (d .turned)

@@ -1,6 +1,6 @@
 -- Document 01, "Sparse algebra": the sum, the difference and the product of two vectors, place by place. "Absent means zero. All float
 -- steps are binary32, nearest, ties to even."
-use Prim.Native.Nat.{ℕ, suc, _-_, min}
+use Prim.Native.Nat.{ℕ, suc, _+_, _-_, min}
 use mathlib.Core.Bool.{_||_, cond}
 use lib.Dec.{eqb}
 use lib.ListN.{getD}
@@ -54,3 +54,14 @@ commonEnd a b =
 -- "distinct union indexes not above the smaller of the two last indexes"
 abbrev pub commonTurns : Vector → Vector → ℕ
 commonTurns a b = countBelow (inUnion a b) (commonEnd a b)
+
+abbrev pub turnsOf : Op → Vector → Vector → ℕ
+turnsOf Add = unionTurns
+turnsOf Sub = unionTurns
+turnsOf Mul = commonTurns
+
+-- "Room: len a + len b in each output list."; for mul "the smaller length."
+abbrev pub roomFor : Op → ℕ → ℕ → ℕ
+roomFor Add m n = m + n
+roomFor Sub m n = m + n
+roomFor Mul m n = min m n

@@ -5,13 +5,13 @@ use refusal::Checked;
 use refusal::Merged;
 use sparse::Cell;
 ghost use mathlib.Core.Path.{_≡_};
-ghost use Prim.Native.Nat.{_+_, min};
+ghost use Prim.Native.Nat.{_+_, _≤_, min};
 ghost use lib.ListN.{length};
 ghost use Rattle.sparse.specs.Vectors.{vector};
-ghost use Rattle.merges.specs.Algebra.{added, subtracted, multiplied, joined};
-ghost use Rattle.merges.specs.Calls.{Sums, Products};
-ghost use Rattle.merges.specs.Loops.{Ready, MergedAll, MergedCommon};
-ghost use Rattle.merges.specs.declared.Op.the-variants.{Add, Sub};
+ghost use Rattle.merges.specs.Algebra.{added, subtracted, multiplied, joined, joins, unionTurns, commonTurns, turnsOf, roomFor};
+ghost use Rattle.merges.specs.Calls.{Joins};
+ghost use Rattle.merges.specs.Loops.{Ready, Fills};
+ghost use Rattle.merges.specs.declared.Op.the-variants.{Add, Sub, Mul};
 
 // How two places are put together.
 pub enum Op {
@@ -90,7 +90,7 @@ fn merge(
     ov: &mut [f32],
 ) -> Both
     requires { ⌜ Ready (vector dims (now ia) (now va)) (vector dims (now ib) (now vb)) (length (now ia) + length (now ib)) (now oi) (now ov) ⌝ }
-    ensures { λ r. ⌜ MergedAll op (vector dims (now (ia .entry)) (now (va .entry))) (vector dims (now (ib .entry)) (now (vb .entry))) (now (oi .entry)) (now (ov .entry)) r (now (oi .exit)) (now (ov .exit)) ⌝ }
+    ensures { λ r. ⌜ Fills (joins op (vector dims (now (ia .entry)) (now (va .entry))) (vector dims (now (ib .entry)) (now (vb .entry)))) (unionTurns (vector dims (now (ia .entry)) (now (va .entry))) (vector dims (now (ib .entry)) (now (vb .entry)))) (now (oi .entry)) (now (ov .entry)) r (now (oi .exit)) (now (ov .exit)) ⌝ }
 {
     let mut p: usize = 0;
     let mut q: usize = 0;
@@ -123,7 +123,7 @@ fn multiply(
     ov: &mut [f32],
 ) -> Both
     requires { ⌜ Ready (vector dims (now ia) (now va)) (vector dims (now ib) (now vb)) (min (length (now ia)) (length (now ib))) (now oi) (now ov) ⌝ }
-    ensures { λ r. ⌜ MergedCommon (vector dims (now (ia .entry)) (now (va .entry))) (vector dims (now (ib .entry)) (now (vb .entry))) (now (oi .entry)) (now (ov .entry)) r (now (oi .exit)) (now (ov .exit)) ⌝ }
+    ensures { λ r. ⌜ Fills (joins Mul (vector dims (now (ia .entry)) (now (va .entry))) (vector dims (now (ib .entry)) (now (vb .entry)))) (commonTurns (vector dims (now (ia .entry)) (now (va .entry))) (vector dims (now (ib .entry)) (now (vb .entry)))) (now (oi .entry)) (now (ov .entry)) r (now (oi .exit)) (now (ov .exit)) ⌝ }
 {
     let mut p: usize = 0;
     let mut q: usize = 0;
@@ -145,8 +145,41 @@ fn multiply(
     }
 }
 
-// Writes a + b, or for Sub a - b. Refuses as `sparse::check_pair` does, and then with ROOM.
-fn sum_of(
+// Writes what two vectors of equal dims give.
+fn write(
+    op: Op,
+    dims: u32,
+    ia: &[u32],
+    va: &[f32],
+    ib: &[u32],
+    vb: &[f32],
+    oi: &mut [u32],
+    ov: &mut [f32],
+) -> Both
+    requires { ⌜ Ready (vector dims (now ia) (now va)) (vector dims (now ib) (now vb)) (roomFor op (length (now ia)) (length (now ib))) (now oi) (now ov) ⌝ }
+    ensures { λ r. ⌜ Fills (joins op (vector dims (now (ia .entry)) (now (va .entry))) (vector dims (now (ib .entry)) (now (vb .entry)))) (turnsOf op (vector dims (now (ia .entry)) (now (va .entry))) (vector dims (now (ib .entry)) (now (vb .entry)))) (now (oi .entry)) (now (ov .entry)) r (now (oi .exit)) (now (ov .exit)) ⌝ }
+{
+    match op {
+        Op::Add => merge(Op::Add, dims, ia, va, ib, vb, oi, ov),
+        Op::Sub => merge(Op::Sub, dims, ia, va, ib, vb, oi, ov),
+        Op::Mul => multiply(dims, ia, va, ib, vb, oi, ov),
+    }
+}
+
+// The room that an answer needs, for two vectors of `a` and `b` entries.
+fn room_for(op: Op, a: usize, b: usize) -> usize
+    requires { ⌜ a + b ≤ 2097150 ⌝ }
+    ensures { λ r. ⌜ r ≡ roomFor op a b ⌝ }
+{
+    match op {
+        Op::Add => a + b,
+        Op::Sub => a + b,
+        Op::Mul => sparse::smaller(a, b),
+    }
+}
+
+// Tests two vectors and the room, and writes what they give.
+fn join(
     op: Op,
     dims_a: u32,
     ia: &[u32],
@@ -157,19 +190,19 @@ fn sum_of(
     oi: &mut [u32],
     ov: &mut [f32],
 ) -> Merged
-    ensures { λ r. ⌜ Sums op (vector «dims_a» (now (ia .entry)) (now (va .entry))) (vector «dims_b» (now (ib .entry)) (now (vb .entry))) (now (oi .entry)) (now (ov .entry)) r (now (oi .exit)) (now (ov .exit)) ⌝ }
+    ensures { λ r. ⌜ Joins op (vector «dims_a» (now (ia .entry)) (now (va .entry))) (vector «dims_b» (now (ib .entry)) (now (vb .entry))) (now (oi .entry)) (now (ov .entry)) r (now (oi .exit)) (now (ov .exit)) ⌝ }
 {
     if let Checked::Refused(number, place) = sparse::check_pair(dims_a, ia, va, dims_b, ib, vb) {
         return Merged::Refused(number, place);
     }
-    let room = ia.len() + ib.len();
+    let room = room_for(op, ia.len(), ib.len());
     if oi.len() < room {
         return Merged::Refused(refusal::ROOM, room);
     }
     if ov.len() < room {
         return Merged::Refused(refusal::ROOM, room);
     }
-    let m = merge(op, dims_a, ia, va, ib, vb, oi, ov);
+    let m = write(op, dims_a, ia, va, ib, vb, oi, ov);
     Merged::Done(dims_a, m.len, m.turns)
 }
 
@@ -185,9 +218,9 @@ pub fn add(
     oi: &mut [u32],
     ov: &mut [f32],
 ) -> Merged
-    ensures { λ r. ⌜ Sums Add (vector «dims_a» (now (ia .entry)) (now (va .entry))) (vector «dims_b» (now (ib .entry)) (now (vb .entry))) (now (oi .entry)) (now (ov .entry)) r (now (oi .exit)) (now (ov .exit)) ⌝ }
+    ensures { λ r. ⌜ Joins Add (vector «dims_a» (now (ia .entry)) (now (va .entry))) (vector «dims_b» (now (ib .entry)) (now (vb .entry))) (now (oi .entry)) (now (ov .entry)) r (now (oi .exit)) (now (ov .exit)) ⌝ }
 {
-    sum_of(Op::Add, dims_a, ia, va, dims_b, ib, vb, oi, ov)
+    join(Op::Add, dims_a, ia, va, dims_b, ib, vb, oi, ov)
 }
 
 // Writes a - b.
@@ -201,9 +234,9 @@ pub fn sub(
     oi: &mut [u32],
     ov: &mut [f32],
 ) -> Merged
-    ensures { λ r. ⌜ Sums Sub (vector «dims_a» (now (ia .entry)) (now (va .entry))) (vector «dims_b» (now (ib .entry)) (now (vb .entry))) (now (oi .entry)) (now (ov .entry)) r (now (oi .exit)) (now (ov .exit)) ⌝ }
+    ensures { λ r. ⌜ Joins Sub (vector «dims_a» (now (ia .entry)) (now (va .entry))) (vector «dims_b» (now (ib .entry)) (now (vb .entry))) (now (oi .entry)) (now (ov .entry)) r (now (oi .exit)) (now (ov .exit)) ⌝ }
 {
-    sum_of(Op::Sub, dims_a, ia, va, dims_b, ib, vb, oi, ov)
+    join(Op::Sub, dims_a, ia, va, dims_b, ib, vb, oi, ov)
 }
 
 // Writes a * b.
@@ -217,18 +250,7 @@ pub fn mul(
     oi: &mut [u32],
     ov: &mut [f32],
 ) -> Merged
-    ensures { λ r. ⌜ Products (vector «dims_a» (now (ia .entry)) (now (va .entry))) (vector «dims_b» (now (ib .entry)) (now (vb .entry))) (now (oi .entry)) (now (ov .entry)) r (now (oi .exit)) (now (ov .exit)) ⌝ }
+    ensures { λ r. ⌜ Joins Mul (vector «dims_a» (now (ia .entry)) (now (va .entry))) (vector «dims_b» (now (ib .entry)) (now (vb .entry))) (now (oi .entry)) (now (ov .entry)) r (now (oi .exit)) (now (ov .exit)) ⌝ }
 {
-    if let Checked::Refused(number, place) = sparse::check_pair(dims_a, ia, va, dims_b, ib, vb) {
-        return Merged::Refused(number, place);
-    }
-    let room = sparse::smaller(ia.len(), ib.len());
-    if oi.len() < room {
-        return Merged::Refused(refusal::ROOM, room);
-    }
-    if ov.len() < room {
-        return Merged::Refused(refusal::ROOM, room);
-    }
-    let m = multiply(dims_a, ia, va, ib, vb, oi, ov);
-    Merged::Done(dims_a, m.len, m.turns)
+    join(Op::Mul, dims_a, ia, va, dims_b, ib, vb, oi, ov)
 }

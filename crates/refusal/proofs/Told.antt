@@ -6,12 +6,13 @@ use mathlib.Core.Path.{_≡_, refl, sym, ap, _∙_}
 use lib.ListN.{length, drop}
 use lib.Ieee.{Float}
 use Rattle.refusal.specs.Answers.{Says, says, tells, Answers, Checks, Measures, Asks, Orders, Writes, leaves}
-use Rattle.refusal.specs.Answers.{same, checkedSays, distanceSays, distanceOf, writtenSays, writtenOf, askedSays, askedOf, orderSays, orderOf}
+use Rattle.refusal.specs.Answers.{same, checkedSays, distanceSays, distanceOf, writtenSays, writtenOf, mergedSays, mergedOf, askedSays, askedOf, orderSays, orderOf}
 use Rattle.refusal.specs.declared.Checked.{Checked}
 use Rattle.refusal.specs.declared.Checked.the-variants.{Valid, Refused}
 use Rattle.refusal.specs.declared.Distance.{Distance}
 use Rattle.refusal.specs.declared.Written.{Written}
 use Rattle.refusal.specs.declared.Written.the-variants.{Done, Refused as NotWritten}
+use Rattle.refusal.specs.declared.Merged.{Merged}
 use Rattle.refusal.specs.declared.Asked.{Asked}
 use Rattle.refusal.specs.declared.Ordering.{Ordering}
 
@@ -40,6 +41,14 @@ written-fair d len (Refused n p) = refl
 
 pub written-answer : (d len : ℕ) {due : Checked} {r : Written} → r ≡ writtenOf d len due → Answers writtenSays (d ∷ len ∷ []) (writtenOf d len) due r
 written-answer d len e = answered writtenSays (d ∷ len ∷ []) (writtenOf d len) (written-fair d len) e
+
+merged-fair : (d len turns : ℕ) (due : Checked) → mergedSays (mergedOf d len turns due) ≡ tells due (d ∷ len ∷ turns ∷ [])
+merged-fair d len turns Valid = refl
+merged-fair d len turns (Refused n p) = refl
+
+pub merged-answer : (d len turns : ℕ) {due : Checked} {r : Merged} → r ≡ mergedOf d len turns due
+    → Answers mergedSays (d ∷ len ∷ turns ∷ []) (mergedOf d len turns) due r
+merged-answer d len turns e = answered mergedSays (d ∷ len ∷ turns ∷ []) (mergedOf d len turns) (merged-fair d len turns) e
 
 asked-fair : (b : Bool) (due : Checked) → askedSays (askedOf b due) ≡ tells due (cond b 1 0 ∷ [])
 asked-fair true Valid = refl

@@ -14,9 +14,9 @@ use Rattle.places.specs.Search.{firstFrom}
 use Rattle.places.proofs.Below.{le-or-lt, any-count, any-false, any-none}
 use Rattle.refusal.specs.Answers.{refuse}
 use Rattle.refusal.specs.declared.Checked.the-variants.{Valid, Refused}
-use Rattle.refusal.proofs.Chains.{refuse-valid}
-use Rattle.sparse.specs.Vectors.{Vector, size}
-use Rattle.sparse.specs.Calls.{badDims, falls, tooHigh, zeroAt, checkedOf}
+use Rattle.refusal.proofs.Chains.{next-valid, refuse-valid}
+use Rattle.sparse.specs.Vectors.{Vector, vector, size}
+use Rattle.sparse.specs.Calls.{badDims, falls, tooHigh, zeroAt, checkedOf, eachOf, pairOf}
 use Rattle.sparse.specs.Walk.{Rising, Sound}
 use Rattle.sparse.proofs.Falls.{rises, falls-at, first-rises}
 
@@ -170,3 +170,26 @@ size-most {v} s =
     (λ h. omega arith)
     (λ h. omega (arith, index-least (v .indexes) (s .rising) (size v - 1) (omega arith), s .below (size v - 1) (omega arith)))
     (le-or-lt (size v) 0)
+
+-- ---- two vectors
+
+pub each-sound : (a b : Vector) → eachOf a b ≡ Valid → Sound a × Sound b
+each-sound a b passed = let v = next-valid (checkedOf a) (checkedOf b) passed in (sound a (v .0), sound b (v .1))
+
+-- the right vector has the left one's dims
+same-dims : (a b : Vector) → a .dims ≡ b .dims → Sound b → Sound (vector (a .dims) (b .indexes) (b .values))
+same-dims a b e s = record {
+  low = omega (arith, e, s .low);
+  high = omega (arith, e, s .high);
+  even = s .even;
+  rising = s .rising;
+  below = λ j h. omega (arith, e, s .below j h);
+  nonzero = s .nonzero;
+}
+
+pub pair-sound : (a b : Vector) → pairOf a b ≡ Valid → Sound a × Sound (vector (a .dims) (b .indexes) (b .values))
+pair-sound a b passed =
+    let v = next-valid (eachOf a b) (refuse (not (eqb (a .dims) (b .dims))) 7 0 Valid) passed in
+    let s = each-sound a b (v .0) in
+    let d = refuse-valid (not (eqb (a .dims) (b .dims))) 7 0 Valid (v .1) in
+    (s .0, same-dims a b (eqb-true (a .dims) (b .dims) (not-false (eqb (a .dims) (b .dims)) (d .0))) (s .1))

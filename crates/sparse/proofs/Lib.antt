@@ -4,3 +4,4 @@ pub mod Checks
 pub mod Look
 pub mod Entries
 pub mod Walk
+pub mod Writes

@@ -124,10 +124,10 @@ module _ {a b : Vector} (sa : Sound a) (sb : Sound b) {limit : ℕ} {P : ℕ →
           inside = below;
           walk = record { left = taken-split sa (g .walk .left) (u .left) reach; right = taken-split sb (g .walk .right) (u .right) reach };
           holds = turn
-          (kept-up P (g .front) (t .place) reach
-          (λ i lo hi.
-          quiet i (taken-gap sa (g .walk .left) (u .left) reach i lo hi) (taken-gap sb (g .walk .right) (u .right) reach i lo hi))
-          (g .holds));
+              (kept-up P (g .front) (t .place) reach
+              (λ i lo hi.
+              quiet i (taken-gap sa (g .walk .left) (u .left) reach i lo hi) (taken-gap sb (g .walk .right) (u .right) reach i lo hi))
+              (g .holds));
         }
 
   -- past the ends of both nothing is left

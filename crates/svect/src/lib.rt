@@ -17,8 +17,8 @@ ghost use Rattle.refusal.specs.Answers.{Checks};
 ghost use Rattle.sparse.specs.Vectors.{vector};
 ghost use Rattle.sparse.specs.Calls.{checkedOf};
 ghost use Rattle.sparse.specs.Walk.{Rising, Split};
-ghost use Rattle.merges.specs.Calls.{Sums, Products};
-ghost use Rattle.merges.specs.declared.Op.the-variants.{Add, Sub};
+ghost use Rattle.merges.specs.Calls.{Joins};
+ghost use Rattle.merges.specs.declared.Op.the-variants.{Add, Sub, Mul};
 ghost use Rattle.folds.specs.Calls.{Dots, L2s, SumsThree};
 ghost use Rattle.svect.specs.Orders.{compared, alone, entriesDecide, decided};
 ghost use Rattle.svect.specs.Calls.{Zeroes, Cuts, Equals, Compares};
@@ -99,7 +99,7 @@ pub fn operator_add(
     oi: &mut [u32],
     ov: &mut [f32],
 ) -> Merged
-    ensures { λ r. ⌜ Sums Add (vector «dims_a» (now (ia .entry)) (now (va .entry))) (vector «dims_b» (now (ib .entry)) (now (vb .entry))) (now (oi .entry)) (now (ov .entry)) r (now (oi .exit)) (now (ov .exit)) ⌝ }
+    ensures { λ r. ⌜ Joins Add (vector «dims_a» (now (ia .entry)) (now (va .entry))) (vector «dims_b» (now (ib .entry)) (now (vb .entry))) (now (oi .entry)) (now (ov .entry)) r (now (oi .exit)) (now (ov .exit)) ⌝ }
 {
     merges::add(dims_a, ia, va, dims_b, ib, vb, oi, ov)
 }
@@ -115,7 +115,7 @@ pub fn operator_sub(
     oi: &mut [u32],
     ov: &mut [f32],
 ) -> Merged
-    ensures { λ r. ⌜ Sums Sub (vector «dims_a» (now (ia .entry)) (now (va .entry))) (vector «dims_b» (now (ib .entry)) (now (vb .entry))) (now (oi .entry)) (now (ov .entry)) r (now (oi .exit)) (now (ov .exit)) ⌝ }
+    ensures { λ r. ⌜ Joins Sub (vector «dims_a» (now (ia .entry)) (now (va .entry))) (vector «dims_b» (now (ib .entry)) (now (vb .entry))) (now (oi .entry)) (now (ov .entry)) r (now (oi .exit)) (now (ov .exit)) ⌝ }
 {
     merges::sub(dims_a, ia, va, dims_b, ib, vb, oi, ov)
 }
@@ -131,7 +131,7 @@ pub fn operator_mul(
     oi: &mut [u32],
     ov: &mut [f32],
 ) -> Merged
-    ensures { λ r. ⌜ Products (vector «dims_a» (now (ia .entry)) (now (va .entry))) (vector «dims_b» (now (ib .entry)) (now (vb .entry))) (now (oi .entry)) (now (ov .entry)) r (now (oi .exit)) (now (ov .exit)) ⌝ }
+    ensures { λ r. ⌜ Joins Mul (vector «dims_a» (now (ia .entry)) (now (va .entry))) (vector «dims_b» (now (ib .entry)) (now (vb .entry))) (now (oi .entry)) (now (ov .entry)) r (now (oi .exit)) (now (ov .exit)) ⌝ }
 {
     merges::mul(dims_a, ia, va, dims_b, ib, vb, oi, ov)
 }

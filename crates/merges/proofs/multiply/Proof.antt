@@ -52,7 +52,7 @@ add-turns c =
     let r = c .before .before .before .before .before .before .before .before .before .before .before .before .before .before .before .before .before .before .pre in
     let m = c .before .before .before .before .before .before .before .before .before .before .before .loop .inv in
     let s : c .before .before .before .before .before .before .before .before .before .before .before .loop .turns + 1 ≤ 2097150 =
-        omega (arith, m .steps, size-most (r .left), size-most (r .right), r .left .high) in
+    omega (arith, m .steps, size-most (r .left), size-most (r .right), r .left .high) in
     search needs
 
 -- src/lib.rt:132:5

@@ -1,0 +1,53 @@
+-- Calls that write a vector to a pair of lists: what they leave after a refusal and on success, and that only one outcome keeps the
+-- promise. Assumes nothing.
+use Prim.Native.Nat.{ℕ, _≤_, _<_}
+use native.Mathlib.Omega.{arith}
+use mathlib.Core.Bool.{or-true}
+use mathlib.Core.List.{List, _++_}
+use mathlib.Core.Path.{_≡_, refl, sym, ap, _∙_}
+use lib.ListN.{length, drop}
+use lib.Ieee.{Float}
+use borrow.Author.Tests.{lt-ltb, le-ltb}
+use Rattle.refusal.specs.Answers.{Says, Answers, leaves}
+use Rattle.refusal.specs.declared.Checked.{Checked}
+use Rattle.refusal.specs.declared.Checked.the-variants.{Valid, Refused}
+use Rattle.refusal.proofs.Only.{one-answer}
+use Rattle.sparse.specs.Vectors.{Vector, size}
+use Rattle.sparse.specs.Calls.{roomOf, Writes}
+
+-- ---- the test of the room
+
+pub room-indexes : (n i v : ℕ) → i < n → roomOf n i v ≡ Refused 9 n
+room-indexes n i v h = rw (lt-ltb i n h)
+
+pub room-values : (n i v : ℕ) → v < n → roomOf n i v ≡ Refused 9 n
+room-values n i v h = rw (lt-ltb v n h, or-true)
+
+pub room-enough : (n i v : ℕ) → n ≤ i → n ≤ v → roomOf n i v ≡ Valid
+room-enough n i v h l = rw (le-ltb i n h, le-ltb v n l)
+
+-- ---- what is left
+
+module _ {A : Type 0} {saysOf : A → Says} {numbers : List ℕ} {give : Checked → A} {due : Checked} {v : Vector} {oi : List ℕ} {ov : List Float} {r : A} where
+  pub refused-writes : {n p : ℕ} → due ≡ Refused n p → Answers saysOf numbers give due r → Writes saysOf numbers give due v oi ov r oi ov
+  refused-writes e told =
+      record {
+        answer = told;
+        indexes = ap (λ (c : Checked). leaves c (v .indexes) oi) (sym e);
+        values = ap (λ (c : Checked). leaves c (v .values) ov) (sym e);
+      }
+
+  pub done-writes : {oi′ : List ℕ} {ov′ : List Float} → due ≡ Valid → Answers saysOf numbers give due r
+      → oi′ ≡ v .indexes ++ drop (size v) oi → length (v .values) ≡ size v → ov′ ≡ v .values ++ drop (size v) ov
+      → Writes saysOf numbers give due v oi ov r oi′ ov′
+  done-writes e told is many vs =
+      record {
+        answer = told;
+        indexes = is ∙ ap (λ (c : Checked). leaves c (v .indexes) oi) (sym e);
+        values = vs ∙ ap (λ (n : ℕ). v .values ++ drop n ov) (sym many) ∙ ap (λ (c : Checked). leaves c (v .values) ov) (sym e);
+      }
+
+  -- two outcomes that keep the promise are equal
+  pub one-writes : {s : A} {oi′ oi″ : List ℕ} {ov′ ov″ : List Float} → Writes saysOf numbers give due v oi ov r oi′ ov′
+      → Writes saysOf numbers give due v oi ov s oi″ ov″ → (r ≡ s) × (oi′ ≡ oi″) × (ov′ ≡ ov″)
+  one-writes p q = (one-answer (p .answer) (q .answer), p .indexes ∙ sym (q .indexes), p .values ∙ sym (q .values))
