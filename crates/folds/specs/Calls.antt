@@ -6,7 +6,9 @@ use Rattle.refusal.specs.declared.Checked.the-variants.{Valid, Refused}
 use Rattle.refusal.specs.declared.Distance.{Distance}
 use Rattle.sparse.specs.Vectors.{Vector}
 use Rattle.sparse.specs.Calls.{pairOf}
-use Rattle.folds.specs.Sums.{dotOf, l2Of, threeOf}
+use Rattle.folds.specs.Sums.{sumOf, dotOf, threeOf}
+use Rattle.folds.specs.declared.Kind.{Kind}
+use Rattle.folds.specs.declared.Kind.the-variants.{Difference}
 use Rattle.folds.specs.declared.Three.{Three}
 use Rattle.folds.specs.declared.Summed.{Summed}
 use Rattle.folds.specs.declared.Summed.the-variants.{Sums, Refused as NotSummed}
@@ -20,11 +22,15 @@ abbrev pub summedOf : Three → Checked → Summed
 summedOf t Valid = Sums t
 summedOf t (Refused n p) = NotSummed n p
 
+-- a sum over two vectors, after their tests
+abbrev pub Distances : Kind → Vector → Vector → Distance → Type 0
+Distances kind a b = Measures (sumOf kind a b) (pairOf a b)
+
 abbrev pub Dots : Vector → Vector → Distance → Type 0
 Dots a b = Measures (dotOf a b) (pairOf a b)
 
 abbrev pub L2s : Vector → Vector → Distance → Type 0
-L2s a b = Measures (l2Of a b) (pairOf a b)
+L2s = Distances Difference
 
 abbrev pub SumsThree : Vector → Vector → Summed → Type 0
 SumsThree a b = Answers summedSays [] (summedOf (threeOf a b)) (pairOf a b)

@@ -42,9 +42,6 @@ sumOf kind a b = foldBelow (stepOf kind) zero32 (at a) (at b) (a .dims)
 abbrev pub dotOf : Vector → Vector → Float
 dotOf a b = neg (sumOf Product a b)
 
-abbrev pub l2Of : Vector → Vector → Float
-l2Of a b = sumOf Difference a b
-
 -- "each operand's own squares"
 abbrev pub squareStep : Float → Cell → Float
 squareStep acc Empty = acc
@@ -55,5 +52,8 @@ squareStep acc (Full a) = add binary32 acc (squareOf a)
 abbrev pub threeStep : Three → Cell → Cell → Three
 threeStep t x y = record { xy = productStep (t .xy) x y; x2 = squareStep (t .x2) x; y2 = squareStep (t .y2) y }
 
+abbrev pub zeroThree : Three
+zeroThree = record { xy = zero32; x2 = zero32; y2 = zero32 }
+
 abbrev pub threeOf : Vector → Vector → Three
-threeOf a b = foldBelow threeStep (record { xy = zero32; x2 = zero32; y2 = zero32 }) (at a) (at b) (a .dims)
+threeOf a b = foldBelow threeStep zeroThree (at a) (at b) (a .dims)

@@ -6,7 +6,7 @@ use sparse::Cell;
 ghost use mathlib.Core.Path.{_≡_};
 ghost use Rattle.sparse.specs.Vectors.{vector};
 ghost use Rattle.folds.specs.Sums.{productStep, differenceStep, squareStep, stepOf, sumOf, threeStep, threeOf};
-ghost use Rattle.folds.specs.Calls.{Dots, L2s, SumsThree};
+ghost use Rattle.folds.specs.Calls.{Distances, Dots, L2s, SumsThree};
 ghost use Rattle.folds.specs.Loops.{Ready};
 
 // What is added up: products of common entries, or squared differences.
@@ -94,25 +94,40 @@ fn sum_of(kind: Kind, dims: u32, ia: &[u32], va: &[f32], ib: &[u32], vb: &[f32])
     acc
 }
 
+// Tests two vectors, and sums over them.
+fn distance(
+    kind: Kind,
+    dims_a: u32,
+    ia: &[u32],
+    va: &[f32],
+    dims_b: u32,
+    ib: &[u32],
+    vb: &[f32],
+) -> Distance
+    ensures { λ r. ⌜ Distances kind (vector «dims_a» (now (ia .entry)) (now (va .entry))) (vector «dims_b» (now (ib .entry)) (now (vb .entry))) r ⌝ }
+{
+    if let Checked::Refused(number, place) = sparse::check_pair(dims_a, ia, va, dims_b, ib, vb) {
+        return Distance::Refused(number, place);
+    }
+    Distance::Value(sum_of(kind, dims_a, ia, va, ib, vb))
+}
+
 // The negated sum of the products of common entries. Refuses as `sparse::check_pair` does, and so do
 // the next two.
 pub fn dot(dims_a: u32, ia: &[u32], va: &[f32], dims_b: u32, ib: &[u32], vb: &[f32]) -> Distance
     ensures { λ r. ⌜ Dots (vector «dims_a» (now (ia .entry)) (now (va .entry))) (vector «dims_b» (now (ib .entry)) (now (vb .entry))) r ⌝ }
 {
-    if let Checked::Refused(number, place) = sparse::check_pair(dims_a, ia, va, dims_b, ib, vb) {
-        return Distance::Refused(number, place);
+    match distance(Kind::Product, dims_a, ia, va, dims_b, ib, vb) {
+        Distance::Value(x) => Distance::Value(-x),
+        Distance::Refused(number, place) => Distance::Refused(number, place),
     }
-    Distance::Value(-sum_of(Kind::Product, dims_a, ia, va, ib, vb))
 }
 
 // The sum of the squared differences.
 pub fn l2(dims_a: u32, ia: &[u32], va: &[f32], dims_b: u32, ib: &[u32], vb: &[f32]) -> Distance
     ensures { λ r. ⌜ L2s (vector «dims_a» (now (ia .entry)) (now (va .entry))) (vector «dims_b» (now (ib .entry)) (now (vb .entry))) r ⌝ }
 {
-    if let Checked::Refused(number, place) = sparse::check_pair(dims_a, ia, va, dims_b, ib, vb) {
-        return Distance::Refused(number, place);
-    }
-    Distance::Value(sum_of(Kind::Difference, dims_a, ia, va, ib, vb))
+    distance(Kind::Difference, dims_a, ia, va, dims_b, ib, vb)
 }
 
 // A sum with the square of one more place.

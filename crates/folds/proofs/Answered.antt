@@ -1,0 +1,29 @@
+-- What a distance that was answered tells of its tests, and what three sums answer. Assumes nothing.
+use Prim.Native.Nat.{ℕ}
+use native.Mathlib.Omega.{arith}
+use mathlib.Core.List.{[]}
+use mathlib.Core.Path.{_≡_, refl}
+use lib.Ieee.{Float}
+use Rattle.refusal.specs.Answers.{tells, Answers, distanceOf}
+use Rattle.refusal.specs.declared.Checked.{Checked}
+use Rattle.refusal.specs.declared.Checked.the-variants.{Valid, Refused}
+use Rattle.refusal.specs.declared.Distance.the-variants.{Value, Refused as NoDistance}
+use Rattle.refusal.proofs.Told.{answered}
+use Rattle.folds.specs.Calls.{summedSays, summedOf}
+use Rattle.folds.specs.declared.Summed.{Summed}
+use Rattle.folds.specs.declared.Three.{Three}
+
+pub value-told : (x y : Float) (due : Checked) → distanceOf x due ≡ Value y → (due ≡ Valid) × (y ≡ x)
+value-told x y Valid e = let same : y ≡ x = cc in (refl, same)
+value-told x y (Refused n p) e = let z : _≡_ {A = ℕ} 0 1 = cc in absurd (omega arith)
+
+pub refusal-told : (x : Float) (due : Checked) (n p : ℕ) → distanceOf x due ≡ NoDistance n p → due ≡ Refused n p
+refusal-told x Valid n p e = let z : _≡_ {A = ℕ} 0 1 = cc in absurd (omega arith)
+refusal-told x (Refused m q) n p e = let a : m ≡ n = cc in let b : q ≡ p = cc in rw (a, b)
+
+summed-fair : (t : Three) (due : Checked) → summedSays (summedOf t due) ≡ tells due []
+summed-fair t Valid = refl
+summed-fair t (Refused n p) = refl
+
+pub summed-answer : (t : Three) {due : Checked} {r : Summed} → r ≡ summedOf t due → Answers summedSays [] (summedOf t) due r
+summed-answer t e = answered summedSays [] (summedOf t) (summed-fair t) e

@@ -1,0 +1,4 @@
+-- Laws of sums over two vectors.
+pub mod Still
+pub mod Summing
+pub mod Answered
