@@ -2,3 +2,4 @@
 pub mod Still
 pub mod Summing
 pub mod Answered
+pub mod Exact

@@ -2,3 +2,4 @@
 pub mod Sums
 pub mod Calls
 pub mod Loops
+pub mod Exact

@@ -11,7 +11,7 @@ use lib.Ieee.{Float, nan, inf, fin, Format, binary32, binary64, prec, up, down, 
 use lib.Ieee.Fits.{and-i, and-l, and-r, down-pos, ofInt-fits}
 use lib.Ieee.Exact.{HasValue}
 use lib.Ieee.Back.{float-back-signed}
-use Rattle.whole.specs.Whole.{signed, negative, number, counts, plain, Holds}
+use Rattle.whole.specs.Whole.{signed, negative, number, counts, plain, integral, integer, Holds}
 use Rattle.whole.proofs.Sizes.{size-signed}
 use Rattle.whole.proofs.Values.{shape}
 use Rattle.whole.proofs.Holds.{ofInt-val, holds-ofInt}
@@ -45,6 +45,13 @@ module _ (f : Format) {x : Float} {z : ℤ} (l : natAbs z ≤ 2 ^ prec f) (h : H
       (uncut (h .sign) (h .size) (omega (arith, bound, room f)) ∙ h .is)
 
 -- ---- a float that passes the test
+
+-- a float without a fraction is an integer, of any size
+pub integral-holds : (x : Float) → T (integral x) → Holds x (integer x)
+integral-holds (fin s m e) t =
+    let n = m * up e / down e in
+    let d : n * down e ≡ m * up e = rw (eqb→eq (m * up e % down e) 0 t, add-zero) at (div-add-mod' (m * up e) (down e)) in
+    record { sign = s; size = n; value = (refl, mul-one (m * up e) ∙ sym d); is = refl }
 
 -- it has no fraction, and is small
 plain-says : (f : Format) (s : Bool) (m : ℕ) (e : ℤ) → T (plain f (fin s m e)) → (m * up e % down e ≡ 0) × (m * up e / down e ≤ 2 ^ prec f)
