@@ -127,21 +127,21 @@ fn multiply(
 {
     let mut p: usize = 0;
     let mut q: usize = 0;
-    let mut n: usize = 0;
-    let mut turns: usize = 0;
+    let mut len: usize = 0;
+    let mut steps: usize = 0;
     while p < ia.len() && q < ib.len() {
         let t = sparse::one_turn(ia, va, p, ib, vb, q);
         let x = t.x;
         let y = t.y;
         let z = mul_cells(x, y);
-        n = sparse::put(oi, ov, n, t.place, z);
+        len = sparse::put(oi, ov, len, t.place, z);
         p = t.p;
         q = t.q;
-        turns += 1;
+        steps += 1;
     }
     Both {
-        len: n,
-        turns: turns,
+        len: len,
+        turns: steps,
     }
 }
 

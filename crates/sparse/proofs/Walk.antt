@@ -16,6 +16,7 @@ use Rattle.sparse.specs.Walk.{Taken, Standing, Turned, Rising, Split, So
 use Rattle.sparse.specs.declared.Cell.{Cell}
 use Rattle.sparse.specs.declared.Cell.the-variants.{Empty, Full}
 use Rattle.sparse.specs.declared.Turn.{Turn}
+use Rattle.sparse.proofs.Checks.{size-most}
 use Rattle.sparse.proofs.Look.{look-end, look-gap, look-met, split-start, split-on, split-met}
 
 -- ---- one vector, whose entry p is the first from the place k on, and a turn to a place m from k on
@@ -90,7 +91,15 @@ going-start {a} {b} h =
 
 module _ {a b : Vector} (sa : Sound a) (sb : Sound b) {limit : ℕ} {P : ℕ → Type 0} {p q : ℕ} (g : Going a b limit P p q) where
   pub standing : p + q < size a + size b → Standing (a .indexes) (a .values) p (b .indexes) (b .values) q
-  standing h = record { even = sa .even; even′ = sb .even; within = g .walk .left .within; within′ = g .walk .right .within; more = h }
+  standing h = record {
+    even = sa .even;
+    even′ = sb .even;
+    within = g .walk .left .within;
+    within′ = g .walk .right .within;
+    most = omega (arith, size-most sa, sa .high);
+    most′ = omega (arith, size-most sb, sb .high);
+    more = h;
+  }
 
   module _ {t : Turn} (u : Turned (a .indexes) (a .values) p (b .indexes) (b .values) q t) where
     -- one of the two has an entry at the place of the turn

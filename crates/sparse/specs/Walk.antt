@@ -14,6 +14,9 @@ use Rattle.sparse.specs.declared.Turn.{Turn}
 
 -- ---- one turn
 
+abbrev pub turn : ℕ → Cell → Cell → ℕ → ℕ → Turn
+turn k x y p q = record { place = k; x = x; y = y; p = p; q = q }
+
 -- what a turn to the place k takes of a vector at the entry p, which is then at p′: the entry p if its index is k; nothing if there is
 -- none or its index is above k
 abbrev pub Taken : List ℕ → List Float → ℕ → ℕ → Cell → ℕ → Type 0
@@ -27,6 +30,8 @@ pub record Standing (is : List ℕ) (vs : List Float) (p : ℕ) (js : List ℕ) 
   pub even′ : length js ≡ length ws
   pub within : p ≤ length is
   pub within′ : q ≤ length js
+  pub most : length is ≤ 1048575
+  pub most′ : length js ≤ 1048575
   pub more : p + q < length is + length js
 
 -- a turn takes what stands at its place in both, and one entry at least

@@ -3,7 +3,7 @@
 
 use refusal::Checked;
 ghost use mathlib.Core.Path.{_≡_};
-ghost use Prim.Native.Nat.{_<_, min};
+ghost use Prim.Native.Nat.{_+_, _<_, min};
 ghost use lib.ListN.{length};
 ghost use Rattle.places.specs.Below.{one, countBelow};
 ghost use Rattle.places.specs.Search.{firstFrom};
@@ -11,7 +11,8 @@ ghost use Rattle.refusal.specs.Answers.{Checks};
 ghost use Rattle.sparse.specs.Cells.{keep};
 ghost use Rattle.sparse.specs.Vectors.{vector};
 ghost use Rattle.sparse.specs.Calls.{falls, tooHigh, zeroAt, checkedOf, eachOf, pairOf};
-ghost use Rattle.sparse.specs.Walk.{Standing, Turned, Put};
+ghost use Rattle.sparse.specs.Walk.{turn, Standing, Turned, Put};
+ghost use Rattle.sparse.specs.declared.Cell.the-variants.{Empty, Full};
 
 // What stands at a place.
 pub enum Cell {
@@ -168,6 +169,46 @@ pub struct Turn {
     pub q: usize,
 }
 
+// The turn to a place that only the left vector has, only the right one, or both.
+fn left_turn(place: u32, v: f32, p: usize, q: usize) -> Turn
+    requires { ⌜ p < 1048575 ⌝ }
+    ensures { λ r. ⌜ r ≡ turn place (Full v) Empty (p + 1) q ⌝ }
+{
+    Turn {
+        place: place,
+        x: Cell::Full(v),
+        y: Cell::Empty,
+        p: p + 1,
+        q: q,
+    }
+}
+
+fn right_turn(place: u32, w: f32, p: usize, q: usize) -> Turn
+    requires { ⌜ q < 1048575 ⌝ }
+    ensures { λ r. ⌜ r ≡ turn place Empty (Full w) p (q + 1) ⌝ }
+{
+    Turn {
+        place: place,
+        x: Cell::Empty,
+        y: Cell::Full(w),
+        p: p,
+        q: q + 1,
+    }
+}
+
+fn both_turn(place: u32, v: f32, w: f32, p: usize, q: usize) -> Turn
+    requires { ⌜ (p < 1048575) × (q < 1048575) ⌝ }
+    ensures { λ r. ⌜ r ≡ turn place (Full v) (Full w) (p + 1) (q + 1) ⌝ }
+{
+    Turn {
+        place: place,
+        x: Cell::Full(v),
+        y: Cell::Full(w),
+        p: p + 1,
+        q: q + 1,
+    }
+}
+
 // The next turn of a walk that has come to the entries p and q and has one left. For the loops of the
 // crates above, not for users.
 pub fn one_turn(ia: &[u32], va: &[f32], p: usize, ib: &[u32], vb: &[f32], q: usize) -> Turn
@@ -175,50 +216,20 @@ pub fn one_turn(ia: &[u32], va: &[f32], p: usize, ib: &[u32], vb: &[f32], q: usi
     ensures { λ r. ⌜ Turned (now (ia .entry)) (now (va .entry)) p (now (ib .entry)) (now (vb .entry)) q r ⌝ }
 {
     if ia.len() <= p {
-        return Turn {
-            place: ib[q],
-            x: Cell::Empty,
-            y: Cell::Full(vb[q]),
-            p: p,
-            q: q + 1,
-        };
+        return right_turn(ib[q], vb[q], p, q);
     }
     let i = ia[p];
     if ib.len() <= q {
-        return Turn {
-            place: i,
-            x: Cell::Full(va[p]),
-            y: Cell::Empty,
-            p: p + 1,
-            q: q,
-        };
+        return left_turn(i, va[p], p, q);
     }
     let j = ib[q];
     if i < j {
-        return Turn {
-            place: i,
-            x: Cell::Full(va[p]),
-            y: Cell::Empty,
-            p: p + 1,
-            q: q,
-        };
+        return left_turn(i, va[p], p, q);
     }
     if j < i {
-        return Turn {
-            place: j,
-            x: Cell::Empty,
-            y: Cell::Full(vb[q]),
-            p: p,
-            q: q + 1,
-        };
+        return right_turn(j, vb[q], p, q);
     }
-    Turn {
-        place: i,
-        x: Cell::Full(va[p]),
-        y: Cell::Full(vb[q]),
-        p: p + 1,
-        q: q + 1,
-    }
+    both_turn(i, va[p], vb[q], p, q)
 }
 
 // Nothing for a zero of either sign, and else the value.

@@ -17,10 +17,10 @@ use Rattle.sparse.proofs.one_turn.Reads as one-turn-reads
 use Rattle.sparse.proofs.put.Reads as put-reads
 
 abbrev Inv-loop : tie.InvT-loop
-Inv-loop dims ia va ib vb oi₀ ov₀ p₀ q₀ n₀ turns₀ oi ov p q n turns = Multiplying (vector dims ia va) (vector dims ib vb) oi₀ ov₀ oi ov p q n turns
+Inv-loop dims ia va ib vb oi₀ ov₀ p₀ q₀ len₀ steps₀ oi ov p q len steps = Multiplying (vector dims ia va) (vector dims ib vb) oi₀ ov₀ oi ov p q len steps
 
 abbrev μ-loop : tie.MeasureT-loop
-μ-loop dims ia va ib vb oi₀ ov₀ p₀ q₀ n₀ turns₀ oi ov p q n turns = length ia + length ib - (p + q)
+μ-loop dims ia va ib vb oi₀ ov₀ p₀ q₀ len₀ steps₀ oi ov p q len steps = length ia + length ib - (p + q)
 
 -- src/lib.rt:132:5
 loop-holds : tie.Need-loop-holds Inv-loop μ-loop
@@ -47,11 +47,11 @@ put-requires c κs =
     (omega (arith, m .few, m .few′, r .room, l .0, h), omega (arith, m .few, m .few′, r .room′, l .1, h))
 
 -- src/lib.rt:140:9
-add-turns : tie.Need-add-turns Inv-loop μ-loop
-add-turns c =
+add-steps : tie.Need-add-steps Inv-loop μ-loop
+add-steps c =
     let r = c .before .before .before .before .before .before .before .before .before .before .before .before .before .before .before .before .before .before .pre in
     let m = c .before .before .before .before .before .before .before .before .before .before .before .loop .inv in
-    let s : c .before .before .before .before .before .before .before .before .before .before .before .loop .turns + 1 ≤ 2097150 =
+    let s : c .before .before .before .before .before .before .before .before .before .before .before .loop .steps + 1 ≤ 2097150 =
     omega (arith, m .steps, size-most (r .left), size-most (r .right), r .left .high) in
     search needs
 
@@ -102,7 +102,7 @@ multiply-spec =
     one-turn-requires
     mul-cells-requires
     put-requires
-    add-turns
+    add-steps
     loop-less
     loop-again
     same-length
