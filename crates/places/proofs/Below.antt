@@ -11,7 +11,7 @@ use mathlib.Core.Path.{_≡_, refl, ap, ap₂, _∙_}
 use borrow.Author.Tests.{ne-eqb}
 use lib.Dec.{eqb}
 use lib.ListN.{length, getD, set, drop, length-append, length-drop, List·getD-append}
-use lib.Seq.{drop-cons, set-at, getD-at}
+use lib.Seq.{drop-cons, set-at, getD-at, ext-getD}
 use Rattle.places.specs.Below.{one, countBelow, anyBelow, listBelow}
 
 pub le-or-lt : (m n : ℕ) → (m ≤ n) ⊎ (n < m)
@@ -138,6 +138,12 @@ pub list-same {ℓ} : {A : Type ℓ} (f g : ℕ → A) (n : ℕ) → ((i : ℕ) 
 unfolding listBelow
 list-same f g zero same = refl
 list-same f g (suc n) same = rw (list-same f g n (λ i h. same i (omega arith)), same n (omega arith))
+
+-- a list is what stands at its places
+pub list-all {ℓ} : {A : Type ℓ} (l : List A) (z : A) → listBelow (λ i. getD l i z) (length l) ≡ l
+list-all l z =
+    let e = length-below (λ i. getD l i z) (length l) in
+    ext-getD z (listBelow (λ i. getD l i z) (length l)) l e (λ i h. at-below (λ j. getD l j z) (length l) i z (rw e at h))
 
 -- a store at the end of what was stored
 pub store {ℓ} : {A : Type ℓ} (f : ℕ → A) (old : List A) (n : ℕ) → n < length old

@@ -5,7 +5,9 @@ use native.Mathlib.Omega.{arith}
 use mathlib.Core.Bool.{Bool, true, false, cond}
 use mathlib.Core.Logic.{⊎-elim}
 use mathlib.Core.Path.{_≡_, refl}
+use Rattle.places.specs.Below.{anyBelow}
 use Rattle.places.specs.Search.{firstFrom}
+use Rattle.places.proofs.Below.{any-none, any-true}
 
 pub found : (t : ℕ → Bool) (m j i : ℕ) → ((k : ℕ) → j ≤ k → k < i → t k ≡ false) → t i ≡ true → j ≤ i → i < j + m → firstFrom t m j ≡ i
 unfolding firstFrom
@@ -55,3 +57,11 @@ hit t (suc m) j h = go (t j) refl h (hit t m (suc j))
         → (firstFrom t m (suc j) < suc j + m → t (firstFrom t m (suc j)) ≡ true) → t (cond b j (firstFrom t m (suc j))) ≡ true
     go true e l rest = e
     go false e l rest = rest (omega arith)
+
+-- ---- the first place tells whether there is one
+
+pub some-first : (t : ℕ → Bool) (n : ℕ) → firstFrom t n 0 < n → anyBelow t n ≡ true
+some-first t n h = any-true t n (firstFrom t n 0) h (hit t n 0 (omega arith))
+
+pub none-first : (t : ℕ → Bool) (n : ℕ) → n ≤ firstFrom t n 0 → anyBelow t n ≡ false
+none-first t n h = any-none t n (λ i l. before t n 0 i (omega arith) (omega arith))

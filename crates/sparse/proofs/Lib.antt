@@ -3,5 +3,6 @@ pub mod Falls
 pub mod Checks
 pub mod Look
 pub mod Entries
+pub mod Meaning
 pub mod Walk
 pub mod Writes

@@ -7,8 +7,12 @@ use lib.ListN.{length, getD, drop}
 use lib.Ieee.{Float, nan}
 use Rattle.places.specs.Below.{listBelow}
 use Rattle.places.specs.Search.{firstFrom}
-use Rattle.sparse.specs.Vectors.{Vector, size}
+use Rattle.sparse.specs.Vectors.{Vector, vector, size}
 use Rattle.svect.specs.Orders.{sameEntry}
+
+-- a vector of which only the entries count
+abbrev pub entries : List ℕ → List Float → Vector
+entries is vs = vector 0 is vs
 
 -- two vectors have n entries at least
 pub record Reach (a b : Vector) (n : ℕ) : Type 0 where

@@ -11,7 +11,6 @@ use refusal::Ordering;
 use refusal::Span;
 use refusal::Written;
 ghost use mathlib.Core.Path.{_≡_};
-ghost use Prim.Native.Nat.{_<_};
 ghost use lib.ListN.{length};
 ghost use Rattle.refusal.specs.Answers.{Checks};
 ghost use Rattle.sparse.specs.Vectors.{vector};
@@ -22,7 +21,7 @@ ghost use Rattle.merges.specs.declared.Op.the-variants.{Add, Sub, Mul};
 ghost use Rattle.folds.specs.Calls.{Dots, L2s, SumsThree};
 ghost use Rattle.svect.specs.Orders.{compared, alone, entriesDecide, decided};
 ghost use Rattle.svect.specs.Calls.{Zeroes, Cuts, Equals, Compares};
-ghost use Rattle.svect.specs.Loops.{Reach, firstOther, Part, Moved};
+ghost use Rattle.svect.specs.Loops.{entries, Reach, firstOther, Part, Moved};
 
 // Whether these are a sparse vector of `dims` places. Refuses with DIMS, LENGTH, ORDER, INDEX, ZERO.
 pub fn new_checked(dims: u32, indexes: &[u32], values: &[f32]) -> Checked
@@ -209,9 +208,9 @@ pub fn subvector(
 }
 
 // The first of n entries that two vectors have not alike, or n.
-fn first_other(dims: u32, ia: &[u32], va: &[f32], ib: &[u32], vb: &[f32], n: usize) -> usize
-    requires { ⌜ Reach (vector dims (now ia) (now va)) (vector dims (now ib) (now vb)) n ⌝ }
-    ensures { λ r. ⌜ r ≡ firstOther (vector dims (now (ia .entry)) (now (va .entry))) (vector dims (now (ib .entry)) (now (vb .entry))) n ⌝ }
+fn first_other(ia: &[u32], va: &[f32], ib: &[u32], vb: &[f32], n: usize) -> usize
+    requires { ⌜ Reach (entries (now ia) (now va)) (entries (now ib) (now vb)) n ⌝ }
+    ensures { λ r. ⌜ r ≡ firstOther (entries (now (ia .entry)) (now (va .entry))) (entries (now (ib .entry)) (now (vb .entry))) n ⌝ }
 {
     let mut i: usize = 0;
     while i < n {
@@ -240,7 +239,7 @@ pub fn eq(dims_a: u32, ia: &[u32], va: &[f32], dims_b: u32, ib: &[u32], vb: &[f3
     if ia.len() != ib.len() {
         return Asked::No;
     }
-    if first_other(dims_a, ia, va, ib, vb, ia.len()) < ia.len() {
+    if first_other(ia, va, ib, vb, ia.len()) < ia.len() {
         return Asked::No;
     }
     Asked::Yes
@@ -286,9 +285,9 @@ fn compare_entries(i: u32, x: f32, j: u32, y: f32) -> Ordering
 }
 
 // How two vectors compare of which the first i entries are alike.
-fn compare_at(dims: u32, ia: &[u32], va: &[f32], ib: &[u32], vb: &[f32], i: usize) -> Ordering
+fn compare_at(ia: &[u32], va: &[f32], ib: &[u32], vb: &[f32], i: usize) -> Ordering
     requires { ⌜ (length (now ia) ≡ length (now va)) × (length (now ib) ≡ length (now vb)) ⌝ }
-    ensures { λ r. ⌜ r ≡ decided (vector dims (now (ia .entry)) (now (va .entry))) (vector dims (now (ib .entry)) (now (vb .entry))) i ⌝ }
+    ensures { λ r. ⌜ r ≡ decided (entries (now (ia .entry)) (now (va .entry))) (entries (now (ib .entry)) (now (vb .entry))) i ⌝ }
 {
     if i < ia.len() {
         if i < ib.len() {
@@ -321,12 +320,5 @@ pub fn partial_cmp(
         return Ordering::Unordered;
     }
     let n = sparse::smaller(ia.len(), ib.len());
-    compare_at(
-        dims_a,
-        ia,
-        va,
-        ib,
-        vb,
-        first_other(dims_a, ia, va, ib, vb, n),
-    )
+    compare_at(ia, va, ib, vb, first_other(ia, va, ib, vb, n))
 }
