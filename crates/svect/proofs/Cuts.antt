@@ -1,5 +1,5 @@
 -- What a slice is that the bounds name, by its entries. Assumes nothing.
-use Prim.Native.Nat.{ℕ, _-_, _≤_}
+use Prim.Native.Nat.{ℕ, _+_, _-_, _≤_}
 use native.Mathlib.Omega.{arith}
 use mathlib.Core.List.{List}
 use mathlib.Core.Path.{_≡_, sym, ap, _∙_}
@@ -12,8 +12,9 @@ use Rattle.refusal.specs.declared.Checked.{Checked}
 use Rattle.refusal.specs.declared.Checked.the-variants.{Valid}
 use Rattle.refusal.specs.declared.Written.the-variants.{Done}
 use Rattle.refusal.proofs.Spans.{Part}
-use Rattle.sparse.specs.Vectors.{Vector, size}
+use Rattle.sparse.specs.Vectors.{Vector, size, at}
 use Rattle.sparse.specs.Walk.{Split, Sound}
+use Rattle.sparse.proofs.Entries.{as-many}
 use Rattle.svect.specs.Calls.{Leaves, slice}
 use Rattle.svect.specs.Loops.{Moved, Part as Moves}
 use Rattle.svect.proofs.Slices.{in-order, Run, run}
@@ -42,6 +43,6 @@ module _ (v : Vector) (s : Sound v) {from to : Bound} {start end p q : ℕ} (b :
       → Leaves due (slice v (startOf from) (endOf (v .dims) to)) oi ov (Done (end - start) (q - p)) oi′ ov′
   slice-written passed m =
       rw (← b .starts, ← b .ends)
-      (done (slice v start end) passed (sym long) (sym (ap length (slices .values) ∙ length-below _ (q - p)))
+      (done (slice v start end) passed (sym long) (as-many (λ k. at v (start + k)) (end - start))
       (rw (slices .indexes) (m .indexes))
       (rw (slices .values) (m .values)))

@@ -7,12 +7,8 @@ use lib.Ieee.{ne}
 use borrow.Author.Count.{below-more}
 use borrow.Author.Tests.{eq-eqb, ne-eqb}
 use Rattle.places.proofs.First.{found, none, some-first, none-first}
-use Rattle.refusal.specs.declared.Checked.the-variants.{Valid}
-use Rattle.refusal.proofs.Chains.{next-valid}
-use Rattle.sparse.specs.Calls.{checkedOf, eachOf}
 use Rattle.sparse.specs.Vectors.{Vector, size}
 use Rattle.sparse.specs.Walk.{Sound}
-use Rattle.sparse.proofs.Checks.{sound}
 use Rattle.svect.specs.Loops.{entries, Reach, firstOther}
 use Rattle.svect.specs.Orders.{indexAt, valueAt, sameEntry, sameEntries}
 
@@ -54,11 +50,7 @@ module _ (a b : Vector) where
   pub none-other : size a ≡ size b → size a ≤ firstOther a b (size a) → sameEntries a b ≡ true
   none-other e h = rw (eq-eqb (size a) (size b) e, none-first (λ i. not (sameEntry a b i)) (size a) h)
 
-  -- ---- vectors that passed
-
-  pub each-sound : eachOf a b ≡ Valid → Sound a × Sound b
-  each-sound passed = let v = next-valid (checkedOf a) (checkedOf b) passed in (sound a (v .0), sound b (v .1))
-
+-- vectors that passed have their values beside their indexes
 pub reach : {a b : Vector} {n : ℕ} → Sound a × Sound b → n ≤ size a → n ≤ size b
     → Reach (entries (a .indexes) (a .values)) (entries (b .indexes) (b .values)) n
 reach s l r = record { left = l; left′ = omega (arith, s .0 .even); right = r; right′ = omega (arith, s .1 .even) }

@@ -6,7 +6,7 @@ use lib.Dec.{eqb}
 use lib.ListN.{length}
 use lib.Ieee.{Float}
 use Rattle.refusal.specs.Numbers.{DIMS, BOUNDS}
-use Rattle.refusal.specs.Answers.{refuse, next, Asks, Orders, writtenSays, writtenOf}
+use Rattle.refusal.specs.Answers.{refuse, next, Answers, Asks, Orders, writtenSays, writtenOf}
 use Rattle.refusal.specs.Bounds.{startOf, endOf, badBounds}
 use Rattle.refusal.specs.declared.Bound.{Bound}
 use Rattle.refusal.specs.declared.Checked.{Checked}
@@ -17,16 +17,15 @@ use Rattle.refusal.specs.declared.Ordering.{Ordering}
 use Rattle.refusal.specs.declared.Ordering.the-variants.{Unordered}
 use Rattle.sparse.specs.Vectors.{Vector, size, at, vectorOf}
 use Rattle.sparse.specs.Calls.{badDims, checkedOf, eachOf, roomOf, Writes}
-use Rattle.sparse.specs.declared.Cell.the-variants.{Empty}
 use Rattle.svect.specs.Orders.{sameEntries, orderBy}
 
 -- the vector v is written
 abbrev pub Leaves : Checked → Vector → List ℕ → List Float → Written → List ℕ → List Float → Type 0
 Leaves due v = Writes writtenSays (v .dims ∷ size v ∷ []) (writtenOf (v .dims) (size v)) due v
 
--- a vector without entries; it needs no room
-abbrev pub Zeroes : ℕ → List ℕ → List Float → Written → List ℕ → List Float → Type 0
-Zeroes d = Leaves (refuse (badDims d) DIMS 0 Valid) (vectorOf d (λ k. Empty))
+-- the vector of d places without entries: there is nothing to write
+abbrev pub Zeroes : ℕ → Written → Type 0
+Zeroes d = Answers writtenSays (d ∷ 0 ∷ []) (writtenOf d 0) (refuse (badDims d) DIMS 0 Valid)
 
 -- "The slice has dims end - start, indexes less start, the same values"
 abbrev pub slice : Vector → ℕ → ℕ → Vector

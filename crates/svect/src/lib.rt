@@ -30,9 +30,9 @@ pub fn new_checked(dims: u32, indexes: &[u32], values: &[f32]) -> Checked
     sparse::check(dims, indexes, values)
 }
 
-// The vector of `dims` places without entries, which leaves `oi` and `ov` as they are. Refuses with DIMS.
-pub fn zero(dims: u32, oi: &mut [u32], ov: &mut [f32]) -> Written
-    ensures { λ r. ⌜ Zeroes dims (now (oi .entry)) (now (ov .entry)) r (now (oi .exit)) (now (ov .exit)) ⌝ }
+// The vector of `dims` places without entries, which needs no lists. Refuses with DIMS.
+pub fn zero(dims: u32) -> Written
+    ensures { λ r. ⌜ Zeroes dims r ⌝ }
 {
     if dims == 0 {
         return Written::Refused(refusal::DIMS, 0);

@@ -9,7 +9,8 @@ use Rattle.refusal.specs.declared.Checked.the-variants.{Valid}
 use Rattle.refusal.proofs.Told.{asked-answer}
 use Rattle.sparse.specs.Calls.{eachOf}
 use Rattle.sparse.specs.Vectors.{Vector, vector}
-use Rattle.svect.proofs.Others.{other-size, some-other, none-other, each-sound, reach}
+use Rattle.sparse.proofs.Checks.{each-sound}
+use Rattle.svect.proofs.Others.{other-size, some-other, none-other, reach}
 use Rattle.svect.proofs.eq.Statement.{statement}
 use Rattle.svect.proofs.eq.Tie as tie
 

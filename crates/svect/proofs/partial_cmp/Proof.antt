@@ -8,7 +8,8 @@ use Rattle.refusal.specs.declared.Checked.the-variants.{Valid}
 use Rattle.sparse.specs.Calls.{eachOf}
 use Rattle.sparse.specs.Vectors.{Vector, vector, size}
 use Rattle.svect.proofs.Fair.{compares}
-use Rattle.svect.proofs.Others.{each-sound, reach}
+use Rattle.sparse.proofs.Checks.{each-sound}
+use Rattle.svect.proofs.Others.{reach}
 use Rattle.svect.proofs.partial_cmp.Statement.{statement}
 use Rattle.svect.proofs.partial_cmp.Tie as tie
 
