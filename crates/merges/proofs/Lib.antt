@@ -2,3 +2,4 @@
 pub mod Made
 pub mod Common
 pub mod Answered
+pub mod Meaning
