@@ -1,9 +1,9 @@
 -- Dot and L2 of whole numbers are exact where the terms' magnitudes add up to at most 16,777,216. Assumes nothing.
-use Prim.Native.Nat.{ℕ, zero, suc, _+_, _*_, _≤_, _<_}
+use Prim.Native.Nat.{ℕ, zero, suc, _≤_, _<_}
 use native.Mathlib.Omega.{arith}
 use mathlib.Core.Bool.{Bool, true, false, cond}
 use mathlib.Core.List.{List, [], _∷_}
-use mathlib.Core.Path.{_≡_, refl, sym, ap, _∙_}
+use mathlib.Core.Path.{_≡_, refl, ap}
 use lib.Dec.{T, eqb}
 use lib.IntN.{ℤ, pos, natAbs, _+ℤ_, _-ℤ_, _*ℤ_, +ℤ-idr}
 use lib.ListN.{length, getD}
@@ -14,7 +14,7 @@ use Rattle.whole.proofs.Holds.{holds-ofInt, holds-sub, holds-mul, add-exact}
 use Rattle.whole.proofs.Numbers as numbers
 use Rattle.whole.proofs.Numbers.{integral-holds}
 use Rattle.sparse.specs.Cells.{zero32, look, foldBelow}
-use Rattle.sparse.specs.Vectors.{Vector, size, at}
+use Rattle.sparse.specs.Vectors.{Vector, at}
 use Rattle.sparse.specs.declared.Cell.{Cell}
 use Rattle.sparse.specs.declared.Cell.the-variants.{Empty, Full}
 use Rattle.folds.specs.Sums.{dense, stepOf, sumOf, dotOf}
@@ -56,7 +56,8 @@ total-le f (suc n) = omega (arith, size-add (totalBelow f n) (f n), total-le f n
 
 -- a square that is small enough, added to a sum
 add-square : (z : ℤ) (x y : Cell) → Fair x → Fair y → natAbs z ≤ 16777216 → natAbs (termOf Difference (numberAt x) (numberAt y)) ≤ 16777216
-    → let d = sub binary32 (dense x) (dense y) in add binary32 (ofInt binary32 z) (mul binary32 d d) ≡ ofInt binary32 (z +ℤ termOf Difference (numberAt x) (numberAt y))
+    → let d = sub binary32 (dense x) (dense y) in
+    add binary32 (ofInt binary32 z) (mul binary32 d d) ≡ ofInt binary32 (z +ℤ termOf Difference (numberAt x) (numberAt y))
 add-square z x y fx fy hz ht =
     let d = numberAt x -ℤ numberAt y in
     let small : natAbs d ≤ 16777216 = square-le (natAbs d) (omega (arith, size-mul d d)) in

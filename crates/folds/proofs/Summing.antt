@@ -1,10 +1,9 @@
 -- A sum over the places of two vectors, taken along the walk over their entries. Assumes nothing.
-use Prim.Native.Nat.{ℕ, suc, _+_, _≤_}
-use native.Mathlib.Omega.{arith}
+use Prim.Native.Nat.{ℕ, _+_, _≤_}
 use mathlib.Core.Path.{_≡_, refl, sym, ap, ap₂, _∙_}
 use Rattle.sparse.specs.Cells.{foldBelow}
 use Rattle.sparse.specs.Vectors.{Vector, size, at}
-use Rattle.sparse.specs.Walk.{Turned, Sound}
+use Rattle.sparse.specs.Walk.{Turned}
 use Rattle.sparse.specs.declared.Cell.{Cell}
 use Rattle.sparse.specs.declared.Cell.the-variants.{Empty}
 use Rattle.sparse.specs.declared.Turn.{Turn}
@@ -19,13 +18,11 @@ pub summing-start : {A : Type 0} {step : A → Cell → Cell → A} {start : A} 
 unfolding foldBelow
 summing-start = record { going = going-start refl }
 
-module _ {A : Type 0} {step : A → Cell → Cell → A} (still : (acc : A) → step acc Empty Empty ≡ acc) {start : A} {a b : Vector} (r : Ready a b) {p q : ℕ} {acc : A} (m : Summing step start a b p q acc) where
+module _ {A : Type 0} {step : A → Cell → Cell → A} (still : (acc : A) → step acc Empty Empty ≡ acc) {start : A}
+    {a b : Vector} (r : Ready a b) {p q : ℕ} {acc : A} (m : Summing step start a b p q acc) where
   quiet : Quiet a b (λ k. acc ≡ foldBelow step start (at a) (at b) k)
   unfolding foldBelow
   quiet i ea eb e = e ∙ rw (ea, eb) (sym (still (foldBelow step start (at a) (at b) i)))
-
-  pub passed : p + q ≤ size a + size b
-  passed = omega (arith, m .going .walk .left .within, m .going .walk .right .within)
 
   pub summing-more : a .dims ≡ b .dims → {t : Turn} → Turned (a .indexes) (a .values) p (b .indexes) (b .values) q t
       → {sum : A} → sum ≡ step acc (t .x) (t .y) → Summing step start a b (t .p) (t .q) sum

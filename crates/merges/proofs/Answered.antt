@@ -1,6 +1,6 @@
 -- What add, sub and mul answer and leave, once their tests and loops are done. Assumes nothing.
 use Prim.Native.Nat.{ℕ}
-use mathlib.Core.List.{List, _∷_, []}
+use mathlib.Core.List.{List}
 use mathlib.Core.Path.{_≡_, refl, sym, ap, ap₂, _∙_}
 use lib.ListN.{length}
 use lib.Ieee.{Float}
@@ -33,5 +33,6 @@ module _ (v : Vector) (turns : ℕ) {due : Checked} {oi : List ℕ} {ov : List F
       → Merges due v turns oi ov (Joined (v .dims) (r .len) (r .turns)) oi′ ov′
   merges-done e many same m =
       done-writes e
-      (merged-answer (v .dims) (size v) turns (ap₂ (Joined (v .dims)) (m .count) (m .turned ∙ same) ∙ ap (mergedOf (v .dims) (size v) turns) (sym e)))
+      (merged-answer (v .dims) (size v) turns
+      (ap₂ (Joined (v .dims)) (m .count) (m .turned ∙ same) ∙ ap (mergedOf (v .dims) (size v) turns) (sym e)))
       (m .indexes) many (m .values)

@@ -3,17 +3,16 @@
 use Prim.Native.Nat.{ℕ, suc, _+_, _-_, _≤_, _<_, min}
 use native.Mathlib.Nat.{eq-or-lt-of-le}
 use native.Mathlib.Omega.{arith}
-use mathlib.Core.Bool.{true, false, _||_, or-true}
+use mathlib.Core.Bool.{or-true}
 use mathlib.Core.List.{List}
 use mathlib.Core.Logic.{_⊎_, inl, inr, ⊎-elim}
-use mathlib.Core.Path.{_≡_, refl, sym, ap, _∙_}
+use mathlib.Core.Path.{_≡_, refl, ap, _∙_}
 use lib.ListN.{length, getD}
 use lib.Ieee.{Float}
 use borrow.Author.Tests.{eq-eqb, ne-eqb}
-use Rattle.places.specs.Below.{countBelow}
 use Rattle.places.proofs.Below.{le-or-lt}
-use Rattle.sparse.specs.Vectors.{Vector, size, at, inUnion}
-use Rattle.sparse.specs.Walk.{Taken, Turned, Put, putCount, Rising, Split, Sound}
+use Rattle.sparse.specs.Vectors.{Vector, size, at}
+use Rattle.sparse.specs.Walk.{Taken, Turned, Put, putCount, Split, Sound}
 use Rattle.sparse.specs.declared.Cell.{Cell}
 use Rattle.sparse.specs.declared.Cell.the-variants.{Empty, Full}
 use Rattle.sparse.specs.declared.Turn.{Turn}
@@ -34,6 +33,14 @@ common-is a b ha hb = rw (ne-eqb (size a) 0 (λ e. omega arith), ne-eqb (size b)
 common-none : (a b : Vector) → (size a ≡ 0) ⊎ (size b ≡ 0) → commonEnd a b ≡ 0
 common-none a b none = ⊎-elim (λ e. rw (eq-eqb (size a) 0 e)) (λ e. rw (eq-eqb (size b) 0 e, or-true)) none
 
+-- one of two vectors has no entry, or both have one
+none-or-some : (a b : Vector) → ((size a ≡ 0) ⊎ (size b ≡ 0)) ⊎ ((1 ≤ size a) × (1 ≤ size b))
+none-or-some a b =
+    ⊎-elim
+    (λ h. inl (inl (omega arith)))
+    (λ h. ⊎-elim (λ g. inl (inr (omega arith))) (λ g. inr (h, g)) (le-or-lt (size b) 0))
+    (le-or-lt (size a) 0)
+
 -- the last index is the largest
 to-last : {v : Vector} → Sound v → (p : ℕ) → p < size v → getD (v .indexes) p 0 ≤ getD (v .indexes) (size v - 1) 0
 to-last {v} s p h =
@@ -48,22 +55,20 @@ module _ {a b : Vector} (sa : Sound a) (sb : Sound b) where
 
   -- where one list has ended it is not after the walk
   common-reach : {p q k : ℕ} → Split (a .indexes) p k → Split (b .indexes) q k → (size a ≤ p) ⊎ (size b ≤ q) → commonEnd a b ≤ k
-  common-reach {p} {q} {k} l r ended = go (le-or-lt (size a) 0) (le-or-lt (size b) 0)
-    where
-      go : (size a ≤ 0) ⊎ (0 < size a) → (size b ≤ 0) ⊎ (0 < size b) → commonEnd a b ≤ k
-      go (inl h) y = omega (arith, common-none a b (inl (omega arith)))
-      go (inr h) (inl g) = omega (arith, common-none a b (inr (omega arith)))
-      go (inr h) (inr g) =
-          let e = common-is a b h g in
-          ⊎-elim (λ u. omega (arith, e, l .low (size a - 1) (omega arith))) (λ u. omega (arith, e, r .low (size b - 1) (omega arith))) ended
+  common-reach {p} {q} {k} l r ended =
+      ⊎-elim
+      (λ none. omega (arith, common-none a b none))
+      (λ some.
+      let e = common-is a b (some .0) (some .1) in
+      ⊎-elim (λ u. omega (arith, e, l .low (size a - 1) (omega arith))) (λ u. omega (arith, e, r .low (size b - 1) (omega arith))) ended)
+      (none-or-some a b)
 
   common-most : commonEnd a b ≤ a .dims
-  common-most = go (le-or-lt (size a) 0) (le-or-lt (size b) 0)
-    where
-      go : (size a ≤ 0) ⊎ (0 < size a) → (size b ≤ 0) ⊎ (0 < size b) → commonEnd a b ≤ a .dims
-      go (inl h) y = omega (arith, common-none a b (inl (omega arith)))
-      go (inr h) (inl g) = omega (arith, common-none a b (inr (omega arith)))
-      go (inr h) (inr g) = omega (arith, common-is a b h g, sa .below (size a - 1) (omega arith))
+  common-most =
+      ⊎-elim
+      (λ none. omega (arith, common-none a b none))
+      (λ some. omega (arith, common-is a b (some .0) (some .1), sa .below (size a - 1) (omega arith)))
+      (none-or-some a b)
 
 -- ---- one side empty, nothing written
 
@@ -72,11 +77,13 @@ right-empty Empty = refl
 right-empty (Full v) = refl
 
 -- a product is stored only where an entry of this side is passed
-few-left : (v : Vector) {p m p′ n : ℕ} {x : Cell} (y : Cell) → Taken (v .indexes) (v .values) p m x p′ → n ≤ p → putCount (multiplied x y) n ≤ p′
+few-left : (v : Vector) {p m p′ n : ℕ} {x : Cell} (y : Cell) → Taken (v .indexes) (v .values) p m x p′ → n ≤ p
+    → putCount (multiplied x y) n ≤ p′
 few-left v {n = n} {x} y t h =
     ⊎-elim (λ e. omega (arith, e .3, put-most (multiplied x y) n)) (λ e. rw (e .1) (omega (arith, e .2))) t
 
-few-right : (v : Vector) {q m q′ n : ℕ} (x : Cell) {y : Cell} → Taken (v .indexes) (v .values) q m y q′ → n ≤ q → putCount (multiplied x y) n ≤ q′
+few-right : (v : Vector) {q m q′ n : ℕ} (x : Cell) {y : Cell} → Taken (v .indexes) (v .values) q m y q′ → n ≤ q
+    → putCount (multiplied x y) n ≤ q′
 few-right v {n = n} x {y} t h =
     ⊎-elim (λ e. omega (arith, e .3, put-most (multiplied x y) n)) (λ e. rw (e .1, right-empty x) (omega (arith, e .2))) t
 
@@ -90,17 +97,13 @@ pub record Multiplying (a b : Vector) (oi : List ℕ) (ov : List Float) (oi′ :
 pub multiplying-start : {a b : Vector} {oi : List ℕ} {ov : List Float} → Multiplying a b oi ov oi ov 0 0 0 0
 multiplying-start {a} {b} = record { few = omega arith; few′ = omega arith; steps = omega arith; going = made-start Mul a b }
 
-module _ {a b : Vector} {oi : List ℕ} {ov : List Float} (r : Ready a b (min (size a) (size b)) oi ov) {oi′ : List ℕ} {ov′ : List Float} {p q n turns : ℕ} (m : Multiplying a b oi ov oi′ ov′ p q n turns) where
-  pub passed-left : p ≤ size a
-  passed-left = m .going .walk .left .within
-
-  pub passed-right : q ≤ size b
-  passed-right = m .going .walk .right .within
+module _ {a b : Vector} {oi : List ℕ} {ov : List Float} (r : Ready a b (min (size a) (size b)) oi ov)
+    {oi′ : List ℕ} {ov′ : List Float} {p q n turns : ℕ} (m : Multiplying a b oi ov oi′ ov′ p q n turns) where
+  fits : n ≤ min (size a) (size b)
+  fits = omega (arith, m .few, m .few′, m .going .walk .left .within, m .going .walk .right .within)
 
   pub lengths : (length oi′ ≡ length oi) × (length ov′ ≡ length ov)
-  lengths =
-      written-lengths (m .going .holds .wrote)
-      (omega (arith, m .few, m .few′, passed-left, passed-right, r .room)) (omega (arith, m .few, m .few′, passed-left, passed-right, r .room′))
+  lengths = written-lengths (m .going .holds .wrote) (omega (arith, fits, r .room)) (omega (arith, fits, r .room′))
 
   pub multiplying-more : p < size a → q < size b → {t : Turn} → Turned (a .indexes) (a .values) p (b .indexes) (b .values) q t
       → {z : Cell} {n′ : ℕ} {oi″ : List ℕ} {ov″ : List Float} → z ≡ multiplied (t .x) (t .y) → Put z (t .place) n oi′ ov′ n′ oi″ ov″
@@ -129,7 +132,9 @@ module _ {a b : Vector} {oi : List ℕ} {ov : List Float} (r : Ready a b (min (s
   multiplying-end ended =
       let g = m .going in
       let same : g .front ≡ commonEnd a b = omega (arith, g .inside, common-reach (r .left) (r .right) (g .walk .left) (g .walk .right) ended) in
-      let w = kept-up (Written (joinAt Mul a b) oi ov oi′ ov′ n) (g .front) (a .dims) (omega (arith, g .inside, common-most (r .left) (r .right)))
-      (λ i lo hi w. written-at w (suc i) (indexes-empty (joinAt Mul a b) i (rest ended i lo)) (values-empty (joinAt Mul a b) i (rest ended i lo)))
+      let empty = rest ended in
+      let w =
+      kept-up (Written (joinAt Mul a b) oi ov oi′ ov′ n) (g .front) (a .dims) (omega (arith, g .inside, common-most (r .left) (r .right)))
+      (λ i lo hi w. written-at w (suc i) (indexes-empty (joinAt Mul a b) i (empty i lo)) (values-empty (joinAt Mul a b) i (empty i lo)))
       (g .holds .wrote) in
       made-merged Mul a b (commonEnd a b) w (rw (← same) (g .holds .turned))

@@ -13,10 +13,9 @@ use Rattle.sparse.specs.declared.Cell.{Cell}
 use Rattle.sparse.specs.declared.Cell.the-variants.{Empty}
 use Rattle.sparse.specs.declared.Turn.{Turn}
 use Rattle.sparse.proofs.Entries.{indexes-empty, values-empty, put-most, Written, written-none, written-at, written-lengths, written-more}
-use Rattle.sparse.proofs.Walk.{Quiet, Going, going-start, going-more, going-end, left-cell, right-cell, in-union, place-below}
+use Rattle.sparse.proofs.Walk.{Quiet, Going, passed, going-start, going-more, going-end, left-cell, right-cell, in-union, place-below}
 use Rattle.merges.specs.Algebra.{joined, joins, unionTurns}
 use Rattle.merges.specs.Loops.{Ready, Fills}
-use Rattle.merges.specs.declared.Both.{Both}
 use Rattle.merges.specs.declared.Op.{Op}
 use Rattle.merges.specs.declared.Op.the-variants.{Add, Sub, Mul}
 
@@ -75,12 +74,12 @@ pub record Merging (op : Op) (a b : Vector) (oi : List ℕ) (ov : List Float) (o
 pub merging-start : {op : Op} {a b : Vector} {oi : List ℕ} {ov : List Float} → Merging op a b oi ov oi ov 0 0 0 0
 merging-start {op} {a} {b} = record { few = omega arith; steps = omega arith; going = made-start op a b }
 
-module _ {op : Op} {a b : Vector} {oi : List ℕ} {ov : List Float} (r : Ready a b (size a + size b) oi ov) {oi′ : List ℕ} {ov′ : List Float} {p q n turns : ℕ} (m : Merging op a b oi ov oi′ ov′ p q n turns) where
-  pub passed : p + q ≤ size a + size b
-  passed = omega (arith, m .going .walk .left .within, m .going .walk .right .within)
-
+module _ {op : Op} {a b : Vector} {oi : List ℕ} {ov : List Float} (r : Ready a b (size a + size b) oi ov)
+    {oi′ : List ℕ} {ov′ : List Float} {p q n turns : ℕ} (m : Merging op a b oi ov oi′ ov′ p q n turns) where
   pub lengths : (length oi′ ≡ length oi) × (length ov′ ≡ length ov)
-  lengths = written-lengths (m .going .holds .wrote) (omega (arith, m .few, passed, r .room)) (omega (arith, m .few, passed, r .room′))
+  lengths =
+      let h = passed (m .going) in
+      written-lengths (m .going .holds .wrote) (omega (arith, m .few, r .room)) (omega (arith, m .few, r .room′))
 
   pub merging-more : a .dims ≡ b .dims → p + q < size a + size b → {t : Turn} → Turned (a .indexes) (a .values) p (b .indexes) (b .values) q t
       → {z : Cell} {n′ : ℕ} {oi″ : List ℕ} {ov″ : List Float} → z ≡ joined op (t .x) (t .y) → Put z (t .place) n oi′ ov′ n′ oi″ ov″

@@ -1,5 +1,5 @@
 -- What a check answers, and what is known of a vector that passed. Assumes nothing.
-use Prim.Native.Nat.{ℕ, zero, suc, _-_, _≤_, _<_, zero-le}
+use Prim.Native.Nat.{ℕ, zero, suc, _+_, _-_, _≤_, _<_, zero-le}
 use native.Mathlib.Nat.{eq-or-lt-of-le, le-of-suc-le-suc}
 use native.Mathlib.Omega.{arith}
 use mathlib.Core.Bool.{Bool, true, false, not, _||_, or-true, true≢false}
@@ -8,7 +8,7 @@ use mathlib.Core.Logic.{⊎-elim}
 use mathlib.Core.Path.{_≡_, refl, sym, ap, _∙_}
 use lib.Dec.{leb, ltb, eqb}
 use lib.ListN.{length, getD}
-use borrow.Author.Tests.{eq-eqb, ne-eqb, lt-ltb, le-ltb, le-leb, lt-leb, eqb-true, eqb-false, ltb-false, leb-false}
+use borrow.Author.Tests.{eq-eqb, ne-eqb, lt-ltb, le-ltb, lt-leb, eqb-true, eqb-false, ltb-false, leb-false}
 use Rattle.places.specs.Below.{countBelow, anyBelow}
 use Rattle.places.specs.Search.{firstFrom}
 use Rattle.places.proofs.Below.{le-or-lt, any-count, any-false, any-none}
@@ -83,14 +83,24 @@ module _ (v : Vector) where
               → checkedOf v ≡ Refused 5 (firstFrom (zeroAt (v .values)) (length (v .values)) 0)
           unfolding checkedOf
           refused-zero some =
-              rw
-              (good-dims (v .dims) l h, eq-eqb (size v) (length (v .values)) even, none-any (falls (v .indexes)) (size v) up, low, some-any (zeroAt (v .values)) (length (v .values)) some)
+              rw (
+                good-dims (v .dims) l h,
+                eq-eqb (size v) (length (v .values)) even,
+                none-any (falls (v .indexes)) (size v) up,
+                low,
+                some-any (zeroAt (v .values)) (length (v .values)) some,
+              )
 
           pub passes : countBelow (zeroAt (v .values)) (length (v .values)) ≡ 0 → checkedOf v ≡ Valid
           unfolding checkedOf
           passes none =
-              rw
-              (good-dims (v .dims) l h, eq-eqb (size v) (length (v .values)) even, none-any (falls (v .indexes)) (size v) up, low, none-any (zeroAt (v .values)) (length (v .values)) none)
+              rw (
+                good-dims (v .dims) l h,
+                eq-eqb (size v) (length (v .values)) even,
+                none-any (falls (v .indexes)) (size v) up,
+                low,
+                none-any (zeroAt (v .values)) (length (v .values)) none,
+              )
 
 -- ---- a vector that passed, and back
 
@@ -172,6 +182,9 @@ size-most {v} s =
     (le-or-lt (size v) 0)
 
 -- ---- two vectors
+
+pub sizes-most : {a b : Vector} → Sound a → Sound b → size a + size b ≤ 2097150
+sizes-most sa sb = omega (arith, size-most sa, size-most sb, sa .high, sb .high)
 
 pub each-sound : (a b : Vector) → eachOf a b ≡ Valid → Sound a × Sound b
 each-sound a b passed = let v = next-valid (checkedOf a) (checkedOf b) passed in (sound a (v .0), sound b (v .1))

@@ -95,6 +95,14 @@ module _ {f : ℕ → Cell} {oi : List ℕ} {ov : List Float} {oi′ : List ℕ}
       let c = put .count ∙ ap (λ (y : Cell). putCount y n) e in
       record {
         count = rw c (store-count (f k) (indexesBelow f k) n k (w .count));
-        indexes = rw c (put .indexes ∙ ap (λ (y : Cell). putIndex y oi′ n k) e ∙ ap (λ (x : List ℕ). putIndex (f k) x n k) (w .indexes) ∙ store-index (f k) (indexesBelow f k) oi n k (w .count) ri);
-        values = rw c (put .values ∙ ap (λ (y : Cell). putValue y ov′ n) e ∙ ap (λ (x : List Float). putValue (f k) x n) (w .values) ∙ store-value (f k) (valuesBelow f k) ov n (as-many f k ∙ w .count) rv);
+        indexes = rw c
+            (put .indexes
+            ∙ ap (λ (y : Cell). putIndex y oi′ n k) e
+            ∙ ap (λ (x : List ℕ). putIndex (f k) x n k) (w .indexes)
+            ∙ store-index (f k) (indexesBelow f k) oi n k (w .count) ri);
+        values = rw c
+            (put .values
+            ∙ ap (λ (y : Cell). putValue y ov′ n) e
+            ∙ ap (λ (x : List Float). putValue (f k) x n) (w .values)
+            ∙ store-value (f k) (valuesBelow f k) ov n (as-many f k ∙ w .count) rv);
       }

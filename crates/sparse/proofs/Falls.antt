@@ -1,13 +1,13 @@
--- When an index falls, and what the counts of falls and of zeros tell. Assumes nothing.
-use Prim.Native.Nat.{ℕ, zero, suc, _+_, _-_, _≤_, _<_}
+-- When an entry's index falls: it is not above the one before. Assumes nothing.
+use Prim.Native.Nat.{ℕ, zero, suc, _-_, _≤_, _<_}
 use native.Mathlib.Omega.{arith}
-use mathlib.Core.Bool.{Bool, true, false}
+use mathlib.Core.Bool.{true, false}
 use mathlib.Core.List.{List}
 use mathlib.Core.Path.{_≡_, refl}
 use lib.Dec.{leb}
-use lib.ListN.{length, getD}
+use lib.ListN.{getD}
 use borrow.Author.Tests.{lt-ltb, le-ltb, le-leb, lt-leb}
-use Rattle.places.specs.Below.{one, countBelow}
+use Rattle.places.specs.Below.{countBelow}
 use Rattle.sparse.specs.Calls.{falls}
 
 pub rises : (is : List ℕ) (i : ℕ) → 0 < i → getD is (i - 1) 0 < getD is i 0 → falls is i ≡ false

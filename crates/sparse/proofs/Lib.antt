@@ -1,8 +1,10 @@
 -- Laws of sparse vectors.
+pub mod Counts
 pub mod Falls
 pub mod Checks
 pub mod Look
 pub mod Entries
 pub mod Meaning
+pub mod Turns
 pub mod Walk
 pub mod Writes

@@ -47,7 +47,11 @@ module _ (is : List ℕ) (vs : List Float) (up : Rising is) (p a : ℕ) (s : Spl
     split-on = record {
       within = s .within;
       low = λ j h. omega (arith, s .low j h);
-      high = λ j h l. ⊎-elim (λ e. let g : p < length is = omega arith in rw (← e) (first g)) (λ h. omega (arith, up p j h l, first (omega arith))) (eq-or-lt-of-le h);
+      high = λ j h l.
+          ⊎-elim
+          (λ e. let g : p < length is = omega arith in rw (← e) (first g))
+          (λ g. omega (arith, up p j g l, first (omega arith)))
+          (eq-or-lt-of-le h);
     }
 
     pub look-gap : (i : ℕ) → a ≤ i → i < b → look is vs i ≡ Empty
@@ -62,6 +66,11 @@ module _ (is : List ℕ) (vs : List Float) (up : Rising is) (p a : ℕ) (s : Spl
     pub split-met : Split is (p + 1) (suc k)
     split-met = record {
       within = omega arith;
-      low = λ j l. ⊎-elim (λ g. let e : j ≡ p = omega arith in rw e (omega arith)) (λ g. omega (arith, s .low j g, s .high p (omega arith) h)) (le-or-lt p j);
+      low = λ j l.
+          let most : j ≤ p = omega arith in
+          ⊎-elim
+          (λ e. rw e (omega arith))
+          (λ g. omega (arith, s .low j g, s .high p (omega arith) h))
+          (eq-or-lt-of-le most);
       high = λ j a b. omega (arith, up p j (omega arith) b);
     }

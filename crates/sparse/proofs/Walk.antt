@@ -3,24 +3,23 @@
 use Prim.Native.Nat.{ℕ, zero, suc, _+_, _≤_, _<_, zero-le}
 use native.Mathlib.Nat.{eq-or-lt-of-le}
 use native.Mathlib.Omega.{arith}
-use mathlib.Core.Bool.{true, _||_, or-true}
-use mathlib.Core.List.{List}
-use mathlib.Core.Logic.{_⊎_, inl, inr, ⊎-elim}
-use mathlib.Core.Path.{_≡_, refl, sym, _∙_}
-use lib.ListN.{length, getD}
-use lib.Ieee.{Float, nan}
+use mathlib.Core.Bool.{true, or-true}
+use mathlib.Core.Logic.{⊎-elim}
+use mathlib.Core.Path.{_≡_, sym, _∙_}
+use lib.ListN.{getD}
 use Rattle.places.proofs.Below.{le-or-lt}
-use Rattle.sparse.specs.Cells.{full, look}
+use Rattle.sparse.specs.Cells.{full}
 use Rattle.sparse.specs.Vectors.{Vector, size, at, inUnion}
-use Rattle.sparse.specs.Walk.{Taken, Standing, Turned, Rising, Split, Sound}
+use Rattle.sparse.specs.Walk.{Taken, Standing, Turned, Split, Sound}
 use Rattle.sparse.specs.declared.Cell.{Cell}
-use Rattle.sparse.specs.declared.Cell.the-variants.{Empty, Full}
+use Rattle.sparse.specs.declared.Cell.the-variants.{Empty}
 use Rattle.sparse.specs.declared.Turn.{Turn}
 use Rattle.sparse.proofs.Checks.{size-most}
 use Rattle.sparse.proofs.Look.{look-end, look-gap, look-met, split-start, split-on, split-met}
 
 -- ---- one vector, whose entry p is the first from the place k on, and a turn to a place m from k on
-module _ {v : Vector} (s : Sound v) {p k m : ℕ} {x : Cell} {p′ : ℕ} (cut : Split (v .indexes) p k) (t : Taken (v .indexes) (v .values) p m x p′) where
+module _ {v : Vector} (s : Sound v) {p k m : ℕ} {x : Cell} {p′ : ℕ} (cut : Split (v .indexes) p k)
+    (t : Taken (v .indexes) (v .values) p m x p′) where
   -- the next entry is not below m
   pub taken-next : p < size v → m ≤ getD (v .indexes) p 0
   taken-next h = ⊎-elim (λ e. omega (arith, e .1)) (λ e. omega (arith, e .0 h)) t
@@ -88,6 +87,10 @@ going-start {a} {b} h =
       walk = record { left = split-start (a .indexes); right = split-start (b .indexes) };
       holds = h;
     }
+
+-- no more entries are passed than there are
+pub passed : {a b : Vector} {limit : ℕ} {P : ℕ → Type 0} {p q : ℕ} → Going a b limit P p q → p + q ≤ size a + size b
+passed g = omega (arith, g .walk .left .within, g .walk .right .within)
 
 module _ {a b : Vector} (sa : Sound a) (sb : Sound b) {limit : ℕ} {P : ℕ → Type 0} {p q : ℕ} (g : Going a b limit P p q) where
   pub standing : p + q < size a + size b → Standing (a .indexes) (a .values) p (b .indexes) (b .values) q

@@ -1,10 +1,9 @@
 -- Calls that write a vector to a pair of lists: what they leave after a refusal and on success, and that only one outcome keeps the
 -- promise. Assumes nothing.
 use Prim.Native.Nat.{ℕ, _≤_, _<_}
-use native.Mathlib.Omega.{arith}
 use mathlib.Core.Bool.{or-true}
 use mathlib.Core.List.{List, _++_}
-use mathlib.Core.Path.{_≡_, refl, sym, ap, _∙_}
+use mathlib.Core.Path.{_≡_, sym, ap, _∙_}
 use lib.ListN.{length, drop}
 use lib.Ieee.{Float}
 use borrow.Author.Tests.{lt-ltb, le-ltb}
@@ -28,7 +27,8 @@ room-enough n i v h l = rw (le-ltb i n h, le-ltb v n l)
 
 -- ---- what is left
 
-module _ {A : Type 0} {saysOf : A → Says} {numbers : List ℕ} {give : Checked → A} {due : Checked} {v : Vector} {oi : List ℕ} {ov : List Float} {r : A} where
+module _ {A : Type 0} {saysOf : A → Says} {numbers : List ℕ} {give : Checked → A} {due : Checked} {v : Vector}
+    {oi : List ℕ} {ov : List Float} {r : A} where
   pub refused-writes : {n p : ℕ} → due ≡ Refused n p → Answers saysOf numbers give due r → Writes saysOf numbers give due v oi ov r oi ov
   refused-writes e told =
       record {

@@ -1,46 +1,35 @@
+-- `folds::add_difference` meets its contract, case by case. Assumes nothing.
 use borrow.Author.Needs.{needs}
 use Rattle.folds.proofs.add_difference.Statement.{statement}
 use Rattle.folds.proofs.add_difference.Tie as tie
-use Rattle.folds.proofs.add_difference.Reads as reads
-use Rattle.folds.proofs.add_difference.Lts as lts
 
--- src/lib.rt:49:20
 enum-known-x : tie.Need-enum-known-x
 enum-known-x c = search needs
 
--- src/lib.rt:50:24
 enum-known-y : tie.Need-enum-known-y
 enum-known-y c = search needs
 
--- src/lib.rt:55:21
 enum-told : tie.Need-enum-told
 enum-told c = search needs
 
--- src/lib.rt:59:24
 enum-told-2 : tie.Need-enum-told-2
 enum-told-2 c = search needs
 
--- src/lib.rt:60:24
 enum-known-y-2 : tie.Need-enum-known-y-2
 enum-known-y-2 c = search needs
 
--- src/lib.rt:64:28
 enum-told-3 : tie.Need-enum-told-3
 enum-told-3 c = search needs
 
--- src/lib.rt:45:1
 returns : tie.Need-returns
 returns c = rw (c .before .before .before .before .x .given .1, c .before .y .given .1)
 
--- src/lib.rt:45:1
 returns-2 : tie.Need-returns-2
 returns-2 c = rw (c .before .before .before .x .given .1, c .enum-told .given .1)
 
--- src/lib.rt:45:1
 returns-3 : tie.Need-returns-3
 returns-3 c = rw (c .before .before .before .enum-told2 .given .1, c .before .y2 .given .1)
 
--- src/lib.rt:45:1
 returns-4 : tie.Need-returns-4
 returns-4 c = search needs
 

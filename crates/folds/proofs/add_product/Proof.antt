@@ -1,34 +1,26 @@
+-- `folds::add_product` meets its contract, case by case. Assumes nothing.
 use borrow.Author.Needs.{needs}
 use Rattle.folds.proofs.add_product.Statement.{statement}
 use Rattle.folds.proofs.add_product.Tie as tie
-use Rattle.folds.proofs.add_product.Reads as reads
-use Rattle.folds.proofs.add_product.Lts as lts
 
--- src/lib.rt:36:20
 enum-known-x : tie.Need-enum-known-x
 enum-known-x c = search needs
 
--- src/lib.rt:37:24
 enum-known-y : tie.Need-enum-known-y
 enum-known-y c = search needs
 
--- src/lib.rt:38:28
 enum-told : tie.Need-enum-told
 enum-told c = search needs
 
--- src/lib.rt:40:24
 enum-told-2 : tie.Need-enum-told-2
 enum-told-2 c = search needs
 
--- src/lib.rt:32:1
 returns : tie.Need-returns
 returns c = rw (c .before .before .before .before .x .given .1, c .before .y .given .1)
 
--- src/lib.rt:32:1
 returns-2 : tie.Need-returns-2
 returns-2 c = search needs
 
--- src/lib.rt:32:1
 returns-3 : tie.Need-returns-3
 returns-3 c = search needs
 

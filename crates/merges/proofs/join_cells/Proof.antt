@@ -1,45 +1,32 @@
+-- `merges::join_cells` meets its contract, operation by operation. Assumes nothing.
 use borrow.Author.Needs.{needs}
 use Rattle.merges.proofs.join_cells.Statement.{statement}
 use Rattle.merges.proofs.join_cells.Tie as tie
-use Rattle.merges.proofs.join_cells.Reads as reads
-use Rattle.merges.proofs.join_cells.Lts as lts
-use Rattle.merges.proofs.add_cells.Reads as add-cells-reads
-use Rattle.merges.proofs.mul_cells.Reads as mul-cells-reads
-use Rattle.merges.proofs.sub_cells.Reads as sub-cells-reads
 
--- src/lib.rt:69:20
 enum-told : tie.Need-enum-told
 enum-told c = search needs
 
--- src/lib.rt:69:20
 add-cells-requires : tie.Need-add-cells-requires
 add-cells-requires c κs = search needs
 
--- src/lib.rt:70:20
 enum-told-2 : tie.Need-enum-told-2
 enum-told-2 c = search needs
 
--- src/lib.rt:70:20
 sub-cells-requires : tie.Need-sub-cells-requires
 sub-cells-requires c κs = search needs
 
--- src/lib.rt:71:20
 enum-told-3 : tie.Need-enum-told-3
 enum-told-3 c = search needs
 
--- src/lib.rt:71:20
 mul-cells-requires : tie.Need-mul-cells-requires
 mul-cells-requires c κs = search needs
 
--- src/lib.rt:65:1
 returns : tie.Need-returns
 returns c = rw (c .before .enum-told .given .1) (c .add-cells .ensures)
 
--- src/lib.rt:65:1
 returns-2 : tie.Need-returns-2
 returns-2 c = rw (c .before .enum-told2 .given .1) (c .sub-cells .ensures)
 
--- src/lib.rt:65:1
 returns-3 : tie.Need-returns-3
 returns-3 c = rw (c .before .enum-told3 .given .1) (c .mul-cells .ensures)
 

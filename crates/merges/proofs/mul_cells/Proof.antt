@@ -1,39 +1,29 @@
+-- `merges::mul_cells` meets its contract, case by case. Assumes nothing.
 use borrow.Author.Needs.{needs}
 use Rattle.merges.proofs.mul_cells.Statement.{statement}
 use Rattle.merges.proofs.mul_cells.Tie as tie
-use Rattle.merges.proofs.mul_cells.Reads as reads
-use Rattle.merges.proofs.mul_cells.Lts as lts
-use Rattle.sparse.proofs.kept.Reads as kept-reads
 
--- src/lib.rt:57:20
 enum-known-x : tie.Need-enum-known-x
 enum-known-x c = search needs
 
--- src/lib.rt:58:24
 enum-known-y : tie.Need-enum-known-y
 enum-known-y c = search needs
 
--- src/lib.rt:58:30
 kept-requires : tie.Need-kept-requires
 kept-requires c κs = search needs
 
--- src/lib.rt:59:28
 enum-told : tie.Need-enum-told
 enum-told c = search needs
 
--- src/lib.rt:61:24
 enum-told-2 : tie.Need-enum-told-2
 enum-told-2 c = search needs
 
--- src/lib.rt:53:1
 returns : tie.Need-returns
 returns c = rw (c .before .before .before .before .before .x .given .1, c .before .before .y .given .1) (c .kept .ensures)
 
--- src/lib.rt:53:1
 returns-2 : tie.Need-returns-2
 returns-2 c = search needs
 
--- src/lib.rt:53:1
 returns-3 : tie.Need-returns-3
 returns-3 c = search needs
 

@@ -1,43 +1,32 @@
+-- `merges::room_for` meets its contract, operation by operation. Assumes nothing.
 use borrow.Author.Needs.{needs}
 use Rattle.merges.proofs.room_for.Statement.{statement}
 use Rattle.merges.proofs.room_for.Tie as tie
-use Rattle.merges.proofs.room_for.Reads as reads
-use Rattle.merges.proofs.room_for.Lts as lts
-use Rattle.sparse.proofs.smaller.Reads as smaller-reads
 
--- src/lib.rt:175:20
 enum-told : tie.Need-enum-told
 enum-told c = search needs
 
--- src/lib.rt:175:20
 add-result : tie.Need-add-result
 add-result c = search needs
 
--- src/lib.rt:176:20
 enum-told-2 : tie.Need-enum-told-2
 enum-told-2 c = search needs
 
--- src/lib.rt:176:20
 add-result-2 : tie.Need-add-result-2
 add-result-2 c = search needs
 
--- src/lib.rt:177:20
 enum-told-3 : tie.Need-enum-told-3
 enum-told-3 c = search needs
 
--- src/lib.rt:177:20
 smaller-requires : tie.Need-smaller-requires
 smaller-requires c κs = search needs
 
--- src/lib.rt:170:1
 returns : tie.Need-returns
 returns c = rw (c .enum-told .given .1)
 
--- src/lib.rt:170:1
 returns-2 : tie.Need-returns-2
 returns-2 c = rw (c .enum-told2 .given .1)
 
--- src/lib.rt:170:1
 returns-3 : tie.Need-returns-3
 returns-3 c = rw (c .before .enum-told3 .given .1) (c .smaller .ensures)
 

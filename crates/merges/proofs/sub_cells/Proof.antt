@@ -1,51 +1,38 @@
+-- `merges::sub_cells` meets its contract, case by case. Assumes nothing.
 use borrow.Author.Needs.{needs}
 use Rattle.merges.proofs.sub_cells.Statement.{statement}
 use Rattle.merges.proofs.sub_cells.Tie as tie
-use Rattle.merges.proofs.sub_cells.Reads as reads
-use Rattle.merges.proofs.sub_cells.Lts as lts
-use Rattle.sparse.proofs.kept.Reads as kept-reads
 
--- src/lib.rt:41:20
 enum-known-x : tie.Need-enum-known-x
 enum-known-x c = search needs
 
--- src/lib.rt:42:24
 enum-known-y : tie.Need-enum-known-y
 enum-known-y c = search needs
 
--- src/lib.rt:42:30
 kept-requires : tie.Need-kept-requires
 kept-requires c κs = search needs
 
--- src/lib.rt:43:28
 enum-told : tie.Need-enum-told
 enum-told c = search needs
 
--- src/lib.rt:45:24
 enum-told-2 : tie.Need-enum-told-2
 enum-told-2 c = search needs
 
--- src/lib.rt:46:24
 enum-known-y-2 : tie.Need-enum-known-y-2
 enum-known-y-2 c = search needs
 
--- src/lib.rt:47:28
 enum-told-3 : tie.Need-enum-told-3
 enum-told-3 c = search needs
 
--- src/lib.rt:37:1
 returns : tie.Need-returns
 returns c = rw (c .before .before .before .before .before .x .given .1, c .before .before .y .given .1) (c .kept .ensures)
 
--- src/lib.rt:37:1
 returns-2 : tie.Need-returns-2
 returns-2 c = rw (c .before .before .before .x .given .1, c .enum-told .given .1)
 
--- src/lib.rt:37:1
 returns-3 : tie.Need-returns-3
 returns-3 c = rw (c .before .before .before .enum-told2 .given .1, c .before .y2 .given .1)
 
--- src/lib.rt:37:1
 returns-4 : tie.Need-returns-4
 returns-4 c = search needs
 

@@ -1,6 +1,6 @@
 -- `sparse::check_each` meets its contract: the left vector's refusal, or else what the right one's check finds. Assumes nothing.
-use borrow.Author.Needs.{needs}
 use mathlib.Core.Path.{sym, _∙_}
+use borrow.Author.Needs.{needs}
 use Rattle.refusal.proofs.Told.{checked-answer}
 use Rattle.sparse.proofs.check_each.Statement.{statement}
 use Rattle.sparse.proofs.check_each.Tie as tie

@@ -1,11 +1,11 @@
 -- `sparse::check_pair` meets its contract: the refusal of one of the two, or else DIFFER where the dims do. Assumes nothing.
-use borrow.Author.Tests.{eq-eqb, ne-eqb}
-use borrow.Author.Needs.{needs}
 use native.Mathlib.Omega.{arith}
 use mathlib.Core.Path.{_≡_, sym, _∙_}
+use borrow.Author.Tests.{eq-eqb, ne-eqb}
+use borrow.Author.Needs.{needs}
 use Rattle.refusal.specs.declared.Checked.the-variants.{Valid}
 use Rattle.refusal.proofs.Told.{checked-answer}
-use Rattle.sparse.specs.Vectors.{vector}
+use Rattle.sparse.specs.Vectors.{Vector, vector}
 use Rattle.sparse.specs.Calls.{eachOf}
 use Rattle.sparse.proofs.check_pair.Statement.{statement}
 use Rattle.sparse.proofs.check_pair.Tie as tie
@@ -13,8 +13,14 @@ use Rattle.sparse.proofs.check_pair.Tie as tie
 abbrev start : tie.After-enum-told → tie.Start
 start c = c .before .before .before .before .before .before .before
 
+abbrev left : tie.After-enum-told → Vector
+left c = let a = start c .args in vector (a .dims-a) (a .ia .now) (a .va .now)
+
+abbrev right : tie.After-enum-told → Vector
+right c = let a = start c .args in vector (a .dims-b) (a .ib .now) (a .vb .now)
+
 -- each vector passed its tests
-passed : (c : tie.After-enum-told) → let a = start c .args in eachOf (vector (a .dims-a) (a .ia .now) (a .va .now)) (vector (a .dims-b) (a .ib .now) (a .vb .now)) ≡ Valid
+passed : (c : tie.After-enum-told) → eachOf (left c) (right c) ≡ Valid
 passed c = sym (c .before .before .check-each .ensures .answer) ∙ c .enum-told .given .1
 
 check-each-requires : tie.Need-check-each-requires
@@ -31,13 +37,13 @@ enum-told c = search needs
 
 returns-2 : tie.Need-returns-2
 returns-2 c =
-    let a = start (c .before) .args in
-    checked-answer (rw (passed (c .before), ne-eqb (a .dims-a) (a .dims-b) (λ e. omega arith)))
+    let t = c .before in
+    checked-answer (rw (passed t, ne-eqb (left t .dims) (right t .dims) (λ e. omega arith)))
 
 returns-3 : tie.Need-returns-3
 returns-3 c =
-    let a = start (c .before) .args in
-    checked-answer (rw (passed (c .before), eq-eqb (a .dims-a) (a .dims-b) (omega arith)))
+    let t = c .before in
+    checked-answer (rw (passed t, eq-eqb (left t .dims) (right t .dims) (omega arith)))
 
 pub check-pair-spec : {M : Type 1} → statement M
 check-pair-spec =

@@ -1,16 +1,16 @@
-use Prim.Native.Nat.{ℕ, _+_, _-_, _≤_, _<_}
+-- `sparse::first_zero` meets its contract. The loop's invariant: none of the first i values is zero. The measure is the number of values
+-- left. Assumes nothing.
+use Prim.Native.Nat.{ℕ, _-_, _≤_, _<_}
 use native.Mathlib.Omega.{arith}
-use mathlib.Core.Path.{_≡_, refl, sym, ap, _∙_}
+use mathlib.Core.Path.{_≡_, sym}
+use mathlib.Core.Bool.{false}
 use lib.ListN.{length}
 use borrow.Author.Needs.{needs}
-use mathlib.Core.Bool.{false}
 use borrow.Author.Count.{below-more}
 use Rattle.places.proofs.First.{found, none}
 use Rattle.sparse.specs.Calls.{zeroAt}
 use Rattle.sparse.proofs.first_zero.Statement.{statement}
 use Rattle.sparse.proofs.first_zero.Tie as tie
-use Rattle.sparse.proofs.first_zero.Reads as reads
-use Rattle.sparse.proofs.first_zero.Lts as lts
 
 abbrev Inv-loop : tie.InvT-loop
 Inv-loop values i₀ i = (i ≤ length values) × ((k : ℕ) → k < i → zeroAt values k ≡ false)
@@ -18,38 +18,30 @@ Inv-loop values i₀ i = (i ≤ length values) × ((k : ℕ) → k < i → zeroA
 abbrev μ-loop : tie.MeasureT-loop
 μ-loop values i₀ i = length values - i
 
--- src/lib.rt:79:5
 loop-holds : tie.Need-loop-holds Inv-loop μ-loop
 loop-holds c = (omega arith, λ k h. absurd (omega arith))
 
--- src/lib.rt:80:17
 mul-v : tie.Need-mul-v Inv-loop μ-loop
 mul-v c = search needs
 
--- src/lib.rt:80:17
 shared-slice-read-v : tie.Need-shared-slice-read-v Inv-loop μ-loop
 shared-slice-read-v c = search needs
 
--- src/lib.rt:82:13
 returns : tie.Need-returns Inv-loop μ-loop
 returns c =
     let l = c .before .before .before .loop in
     let vs = c .before .before .before .before .args .values .now in
     sym (found (zeroAt vs) (length vs) 0 (l .i) (λ k a b. l .inv .1 k b) (c .if1 .taken) (omega arith) (omega arith))
 
--- src/lib.rt:84:9
 add-i : tie.Need-add-i Inv-loop μ-loop
 add-i c = search needs
 
--- src/lib.rt:79:5
 loop-less : tie.Need-loop-less Inv-loop μ-loop
 loop-less c = search needs
 
--- src/lib.rt:79:5
 loop-again : tie.Need-loop-again Inv-loop μ-loop
 loop-again c = (omega arith, below-more _ _ (c .before .before .before .loop .inv .1) (c .if1 .left))
 
--- src/lib.rt:75:1
 returns-2 : tie.Need-returns-2 Inv-loop μ-loop
 returns-2 c =
     let l = c .before .loop in

@@ -1,42 +1,32 @@
+-- `sparse::put` meets its contract: a full cell is stored in both lists, and an empty one in none. Assumes nothing.
 use borrow.Author.Needs.{needs}
 use Rattle.sparse.proofs.put.Statement.{statement}
 use Rattle.sparse.proofs.put.Tie as tie
-use Rattle.sparse.proofs.put.Reads as reads
-use Rattle.sparse.proofs.put.Lts as lts
 
--- src/lib.rt:228:23
 enum-known-z : tie.Need-enum-known-z
 enum-known-z c = search needs
 
--- src/lib.rt:229:9
 mul-oi : tie.Need-mul-oi
 mul-oi c = search needs
 
--- src/lib.rt:229:9
 slice-write-oi : tie.Need-slice-write-oi
 slice-write-oi c = search needs
 
--- src/lib.rt:230:9
 mul-ov : tie.Need-mul-ov
 mul-ov c = search needs
 
--- src/lib.rt:230:9
 slice-write-ov : tie.Need-slice-write-ov
 slice-write-ov c = search needs
 
--- src/lib.rt:231:16
 add-result : tie.Need-add-result
 add-result c = search needs
 
--- src/lib.rt:231:9
 same-length : tie.Need-same-length
 same-length c = search needs
 
--- src/lib.rt:231:9
 same-length-2 : tie.Need-same-length-2
 same-length-2 c = search needs
 
--- src/lib.rt:231:9
 returns : tie.Need-returns
 returns c =
     let e = c .before .z .given .1 in
@@ -45,7 +35,6 @@ returns c =
 enum-told : tie.Need-enum-told
 enum-told c = search needs
 
--- src/lib.rt:224:1
 returns-2 : tie.Need-returns-2
 returns-2 c = search needs
 
