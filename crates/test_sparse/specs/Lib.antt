@@ -1,0 +1,2 @@
+-- The definitions that the contracts of `test_sparse` cite.
+pub mod Room
