@@ -8,7 +8,7 @@ use crate::show::TOP;
 
 fn words_case(label: &[u8], dims: u32) {
     show::head(b"words_for", label);
-    show::number(bit::words_for(dims) as u64);
+    shown::number(bit::words_for(dims) as u64);
     show::end();
 }
 
@@ -22,9 +22,9 @@ pub fn words_for() {
 
 pub fn check_case(label: &[u8], dims: u32, words: &[u64]) {
     show::head(b"check", label);
-    show::checked(bit::check(dims, words));
-    show::text(b"; new_checked");
-    show::checked(bvect::new_checked(dims, words));
+    shown::checked(bit::check(dims, words));
+    shown::text(b"; new_checked");
+    shown::checked(bvect::new_checked(dims, words));
     show::end();
 }
 
@@ -55,7 +55,7 @@ pub fn check_order() {
 
 pub fn get_case(label: &[u8], dims: u32, words: &[u64], index: u32) {
     show::head(b"get", label);
-    show::asked(bvect::get(dims, words, index));
+    shown::asked(bvect::get(dims, words, index));
     show::end();
 }
 
@@ -86,7 +86,7 @@ pub fn get_refused() {
 
 fn zero_case(label: &[u8], dims: u32, out: &mut [u64]) {
     show::head(b"zero", label);
-    show::written(bvect::zero(dims, out));
+    shown::written(bvect::zero(dims, out), b" words");
     show::left(out);
 }
 

@@ -5,21 +5,21 @@ use crate::show::MARK;
 
 // The calls of `bvect`, and then those of `bit`, one after another on one lent list.
 fn operators(dims_a: u32, a: &[u64], dims_b: u32, b: &[u64], out: &mut [u64]) {
-    show::text(b" and");
-    show::written(bvect::operator_and(dims_a, a, dims_b, b, out));
-    show::text(b"; or");
-    show::written(bvect::operator_or(dims_a, a, dims_b, b, out));
-    show::text(b"; xor");
-    show::written(bvect::operator_xor(dims_a, a, dims_b, b, out));
+    shown::text(b" and");
+    shown::written(bvect::operator_and(dims_a, a, dims_b, b, out), b" words");
+    shown::text(b"; or");
+    shown::written(bvect::operator_or(dims_a, a, dims_b, b, out), b" words");
+    shown::text(b"; xor");
+    shown::written(bvect::operator_xor(dims_a, a, dims_b, b, out), b" words");
 }
 
 fn vectors(dims_a: u32, a: &[u64], dims_b: u32, b: &[u64], out: &mut [u64]) {
-    show::text(b"; vector_and");
-    show::written(bit::vector_and(dims_a, a, dims_b, b, out));
-    show::text(b"; vector_or");
-    show::written(bit::vector_or(dims_a, a, dims_b, b, out));
-    show::text(b"; vector_xor");
-    show::written(bit::vector_xor(dims_a, a, dims_b, b, out));
+    shown::text(b"; vector_and");
+    shown::written(bit::vector_and(dims_a, a, dims_b, b, out), b" words");
+    shown::text(b"; vector_or");
+    shown::written(bit::vector_or(dims_a, a, dims_b, b, out), b" words");
+    shown::text(b"; vector_xor");
+    shown::written(bit::vector_xor(dims_a, a, dims_b, b, out), b" words");
 }
 
 pub fn all_case(label: &[u8], dims_a: u32, a: &[u64], dims_b: u32, b: &[u64], out: &mut [u64]) {
@@ -31,37 +31,37 @@ pub fn all_case(label: &[u8], dims_a: u32, a: &[u64], dims_b: u32, b: &[u64], ou
 
 fn and(label: &[u8], dims_a: u32, a: &[u64], dims_b: u32, b: &[u64], out: &mut [u64]) {
     show::head(b"and", label);
-    show::written(bvect::operator_and(dims_a, a, dims_b, b, out));
+    shown::written(bvect::operator_and(dims_a, a, dims_b, b, out), b" words");
     show::left(out);
 }
 
 fn or(label: &[u8], dims_a: u32, a: &[u64], dims_b: u32, b: &[u64], out: &mut [u64]) {
     show::head(b"or", label);
-    show::written(bvect::operator_or(dims_a, a, dims_b, b, out));
+    shown::written(bvect::operator_or(dims_a, a, dims_b, b, out), b" words");
     show::left(out);
 }
 
 fn xor(label: &[u8], dims_a: u32, a: &[u64], dims_b: u32, b: &[u64], out: &mut [u64]) {
     show::head(b"xor", label);
-    show::written(bvect::operator_xor(dims_a, a, dims_b, b, out));
+    shown::written(bvect::operator_xor(dims_a, a, dims_b, b, out), b" words");
     show::left(out);
 }
 
 fn vector_and(label: &[u8], dims_a: u32, a: &[u64], dims_b: u32, b: &[u64], out: &mut [u64]) {
     show::head(b"vector_and", label);
-    show::written(bit::vector_and(dims_a, a, dims_b, b, out));
+    shown::written(bit::vector_and(dims_a, a, dims_b, b, out), b" words");
     show::left(out);
 }
 
 fn vector_or(label: &[u8], dims_a: u32, a: &[u64], dims_b: u32, b: &[u64], out: &mut [u64]) {
     show::head(b"vector_or", label);
-    show::written(bit::vector_or(dims_a, a, dims_b, b, out));
+    shown::written(bit::vector_or(dims_a, a, dims_b, b, out), b" words");
     show::left(out);
 }
 
 fn vector_xor(label: &[u8], dims_a: u32, a: &[u64], dims_b: u32, b: &[u64], out: &mut [u64]) {
     show::head(b"vector_xor", label);
-    show::written(bit::vector_xor(dims_a, a, dims_b, b, out));
+    shown::written(bit::vector_xor(dims_a, a, dims_b, b, out), b" words");
     show::left(out);
 }
 

@@ -27,23 +27,23 @@ pub fn one() {
 // Every call on two vectors that only reads.
 pub fn pair_case(label: &[u8], dims_a: u32, a: &[u64], dims_b: u32, b: &[u64]) {
     show::head(b"pair", label);
-    show::text(b" check_pair");
-    show::checked(bit::check_pair(dims_a, a, dims_b, b));
-    show::text(b"; and");
+    shown::text(b" check_pair");
+    shown::checked(bit::check_pair(dims_a, a, dims_b, b));
+    shown::text(b"; and");
     show::count(bit::sum_of_and(dims_a, a, dims_b, b));
-    show::text(b"; or");
+    shown::text(b"; or");
     show::count(bit::sum_of_or(dims_a, a, dims_b, b));
-    show::text(b"; xor");
+    shown::text(b"; xor");
     show::count(bit::sum_of_xor(dims_a, a, dims_b, b));
-    show::text(b"; both");
+    shown::text(b"; both");
     show::counts(bit::sum_of_and_or(dims_a, a, dims_b, b));
-    show::text(b"; dot");
-    show::distance(bvect::operator_dot(dims_a, a, dims_b, b));
-    show::text(b"; hamming");
-    show::distance(bvect::operator_hamming(dims_a, a, dims_b, b));
-    show::text(b"; jaccard");
-    show::distance(bvect::operator_jaccard(dims_a, a, dims_b, b));
-    show::text(b"; ");
+    shown::text(b"; dot");
+    shown::distance(bvect::operator_dot(dims_a, a, dims_b, b));
+    shown::text(b"; hamming");
+    shown::distance(bvect::operator_hamming(dims_a, a, dims_b, b));
+    shown::text(b"; jaccard");
+    shown::distance(bvect::operator_jaccard(dims_a, a, dims_b, b));
+    shown::text(b"; ");
     orders::answers(dims_a, a, dims_b, b);
 }
 

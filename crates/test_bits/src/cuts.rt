@@ -7,7 +7,7 @@ use refusal::Bound;
 
 pub fn case(label: &[u8], dims: u32, words: &[u64], from: Bound, to: Bound, out: &mut [u64]) {
     show::head(b"subvector", label);
-    show::written(bvect::subvector(dims, words, from, to, out));
+    shown::written(bvect::subvector(dims, words, from, to, out), b" words");
     show::left(out);
 }
 

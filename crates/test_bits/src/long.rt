@@ -51,11 +51,11 @@ pub fn pairs() {
 // word, and its words from place 1,023 on. Of a shorter list nothing.
 fn edges(dims: u32, out: &[u64]) {
     if 1024 <= out.len() {
-        show::text(b";");
+        shown::text(b";");
         show::count(bit::sum_of_x(dims, &out[0..1024]));
-        show::text(b" |");
+        shown::text(b" |");
         show::words(&out[0..1]);
-        show::text(b" ..");
+        shown::text(b" ..");
         show::words(&out[1023..]);
     }
     show::end();
@@ -64,27 +64,27 @@ fn edges(dims: u32, out: &[u64]) {
 fn and(a: &[u64], b: &[u64]) {
     let mut out = [MARK; 1025];
     show::head(b"and", b"full and last");
-    show::written(bvect::operator_and(65535, a, 65535, b, &mut out));
+    shown::written(bvect::operator_and(65535, a, 65535, b, &mut out), b" words");
     edges(65535, &out);
 }
 
 fn or(a: &[u64], b: &[u64]) {
     let mut out = [MARK; 1025];
     show::head(b"or", b"full and last");
-    show::written(bvect::operator_or(65535, a, 65535, b, &mut out));
+    shown::written(bvect::operator_or(65535, a, 65535, b, &mut out), b" words");
     edges(65535, &out);
 }
 
 fn xor(a: &[u64], b: &[u64]) {
     let mut out = [MARK; 1025];
     show::head(b"xor", b"full and last");
-    show::written(bvect::operator_xor(65535, a, 65535, b, &mut out));
+    shown::written(bvect::operator_xor(65535, a, 65535, b, &mut out), b" words");
     edges(65535, &out);
 }
 
 fn zero(label: &[u8], out: &mut [u64]) {
     show::head(b"zero", label);
-    show::written(bvect::zero(65535, out));
+    shown::written(bvect::zero(65535, out), b" words");
     edges(65535, out);
 }
 
@@ -103,7 +103,10 @@ pub fn cut() {
     let a = full();
     let mut out = [MARK; 1025];
     show::head(b"subvector", b"full, from 1");
-    show::written(bvect::subvector(65535, &a, Bound::Excluded(0), Bound::Unbounded, &mut out));
+    shown::written(
+        bvect::subvector(65535, &a, Bound::Excluded(0), Bound::Unbounded, &mut out),
+        b" words",
+    );
     edges(65534, &out);
 }
 

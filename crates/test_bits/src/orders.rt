@@ -6,18 +6,18 @@ use crate::show::TOP;
 
 // The answers and the end of the line.
 pub fn answers(dims_a: u32, a: &[u64], dims_b: u32, b: &[u64]) {
-    show::text(b"check_each");
-    show::checked(bit::check_each(dims_a, a, dims_b, b));
-    show::text(b"; eq");
-    show::asked(bvect::eq(dims_a, a, dims_b, b));
-    show::text(b"; partial_cmp");
-    show::ordering(bvect::partial_cmp(dims_a, a, dims_b, b));
+    shown::text(b"check_each");
+    shown::checked(bit::check_each(dims_a, a, dims_b, b));
+    shown::text(b"; eq");
+    shown::asked(bvect::eq(dims_a, a, dims_b, b));
+    shown::text(b"; partial_cmp");
+    shown::ordering(bvect::partial_cmp(dims_a, a, dims_b, b));
     show::end();
 }
 
 pub fn case(label: &[u8], dims_a: u32, a: &[u64], dims_b: u32, b: &[u64]) {
     show::head(b"order", label);
-    show::text(b" ");
+    shown::text(b" ");
     answers(dims_a, a, dims_b, b);
 }
 

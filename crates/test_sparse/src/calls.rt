@@ -28,10 +28,13 @@ fn write(
     ov: &mut [f32],
 ) -> bool {
     match call {
-        b'a' => show::merged(svect::operator_add(dims_a, ia, va, dims_b, ib, vb, oi, ov)),
-        b's' => show::merged(svect::operator_sub(dims_a, ia, va, dims_b, ib, vb, oi, ov)),
-        b'm' => show::merged(svect::operator_mul(dims_a, ia, va, dims_b, ib, vb, oi, ov)),
-        b'p' => show::written(svect::subvector(dims_a, ia, va, from, to, oi, ov)),
+        b'a' => shown::merged(svect::operator_add(dims_a, ia, va, dims_b, ib, vb, oi, ov)),
+        b's' => shown::merged(svect::operator_sub(dims_a, ia, va, dims_b, ib, vb, oi, ov)),
+        b'm' => shown::merged(svect::operator_mul(dims_a, ia, va, dims_b, ib, vb, oi, ov)),
+        b'p' => shown::written(
+            svect::subvector(dims_a, ia, va, from, to, oi, ov),
+            b" entries",
+        ),
         _ => return false,
     }
     true
@@ -92,13 +95,13 @@ fn run(
     rest: Tail,
 ) -> bool {
     match call {
-        b'c' => show::checked(svect::new_checked(dims_a, ia, va)),
-        b'z' => show::written(svect::zero(dims_a)),
-        b'd' => show::distance(svect::operator_dot(dims_a, ia, va, dims_b, ib, vb)),
-        b'l' => show::distance(svect::operator_l2(dims_a, ia, va, dims_b, ib, vb)),
+        b'c' => shown::checked(svect::new_checked(dims_a, ia, va)),
+        b'z' => shown::written(svect::zero(dims_a), b" entries"),
+        b'd' => shown::distance(svect::operator_dot(dims_a, ia, va, dims_b, ib, vb)),
+        b'l' => shown::distance(svect::operator_l2(dims_a, ia, va, dims_b, ib, vb)),
         b't' => show::summed(svect::three_sums(dims_a, ia, va, dims_b, ib, vb)),
-        b'e' => show::asked(svect::eq(dims_a, ia, va, dims_b, ib, vb)),
-        b'o' => show::ordering(svect::partial_cmp(dims_a, ia, va, dims_b, ib, vb)),
+        b'e' => shown::asked(svect::eq(dims_a, ia, va, dims_b, ib, vb)),
+        b'o' => shown::ordering(svect::partial_cmp(dims_a, ia, va, dims_b, ib, vb)),
         _ => return lend(call, dims_a, ia, va, dims_b, ib, vb, rest),
     }
     true
@@ -156,16 +159,16 @@ fn case(s: &[u8], bar: usize, call: u8) -> bool {
 pub fn line(s: &[u8]) -> bool {
     let call = read::byte(s, 0);
     if call == b'#' {
-        show::text(s);
-        show::text(b"\n");
+        shown::text(s);
+        shown::text(b"\n");
         return true;
     }
     let bar = read::find(s, 0, b'|');
-    show::text(&s[0..bar]);
-    show::text(b"|");
+    shown::text(&s[0..bar]);
+    shown::text(b"|");
     if !case(s, bar, call) {
         return false;
     }
-    show::text(b"\n");
+    shown::text(b"\n");
     true
 }

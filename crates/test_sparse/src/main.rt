@@ -18,11 +18,11 @@ fn lines(s: &[u8]) {
     while at < s.len() {
         let end = read::find(s, at, b'\n');
         if s.len() <= end {
-            show::text(b"the last line does not end\n");
+            shown::text(b"the last line does not end\n");
             return;
         }
         if !calls::line(&s[at..end]) {
-            show::text(b" this is no case\n");
+            shown::text(b" this is no case\n");
             return;
         }
         at = end + 1;

@@ -1,11 +1,11 @@
--- `float` is safe. A float that does not differ from itself is no NaN, so its bit pattern is defined.
+-- `shown::float` is safe. A float that does not differ from itself is no NaN, so its bit pattern is defined.
 use mathlib.Core.Path.{_≡_}
 use mathlib.Core.Bool.{false, not, true≢false}
 use lib.Dec.{T}
 use lib.Ieee.{Float, nan, inf, fin, isNan, ne}
 use borrow.Author.Needs.{needs}
-use Rattle.test_bits.proofs.show.float.Statement.{statement}
-use Rattle.test_bits.proofs.show.float.Tie as tie
+use Rattle.shown.proofs.float.Statement.{statement}
+use Rattle.shown.proofs.float.Tie as tie
 
 equals-itself : (x : Float) → ne x x ≡ false → T (not (isNan x))
 unfolding ne isNan
