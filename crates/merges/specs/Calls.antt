@@ -7,13 +7,13 @@ use Rattle.refusal.specs.Answers.{next, mergedSays, mergedOf}
 use Rattle.refusal.specs.declared.Checked.{Checked}
 use Rattle.refusal.specs.declared.Merged.{Merged}
 use Rattle.sparse.specs.Vectors.{Vector, size}
-use Rattle.sparse.specs.Calls.{pairOf, roomOf, Writes}
+use Rattle.sparse.specs.Calls.{pairOf, roomOf, WritesPair}
 use Rattle.merges.specs.Algebra.{joins, turnsOf, roomFor}
 use Rattle.merges.specs.declared.Op.{Op}
 
 -- the vector v is written, after so many turns
 abbrev pub Merges : Checked → Vector → ℕ → List ℕ → List Float → Merged → List ℕ → List Float → Type 0
-Merges due v turns = Writes mergedSays (v .dims ∷ size v ∷ turns ∷ []) (mergedOf (v .dims) (size v) turns) due v
+Merges due v turns = WritesPair mergedSays (v .dims ∷ size v ∷ turns ∷ []) (mergedOf (v .dims) (size v) turns) due v
 
 -- what two vectors give is written
 abbrev pub Joins : Op → Vector → Vector → List ℕ → List Float → Merged → List ℕ → List Float → Type 0

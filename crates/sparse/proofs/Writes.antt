@@ -12,7 +12,7 @@ use Rattle.refusal.specs.declared.Checked.{Checked}
 use Rattle.refusal.specs.declared.Checked.the-variants.{Valid, Refused}
 use Rattle.refusal.proofs.Only.{one-answer}
 use Rattle.sparse.specs.Vectors.{Vector, size}
-use Rattle.sparse.specs.Calls.{roomOf, Writes}
+use Rattle.sparse.specs.Calls.{roomOf, WritesPair}
 
 -- ---- the test of the room
 
@@ -29,7 +29,7 @@ room-enough n i v h l = rw (le-ltb i n h, le-ltb v n l)
 
 module _ {A : Type 0} {saysOf : A → Says} {numbers : List ℕ} {give : Checked → A} {due : Checked} {v : Vector}
     {oi : List ℕ} {ov : List Float} {r : A} where
-  pub refused-writes : {n p : ℕ} → due ≡ Refused n p → Answers saysOf numbers give due r → Writes saysOf numbers give due v oi ov r oi ov
+  pub refused-writes : {n p : ℕ} → due ≡ Refused n p → Answers saysOf numbers give due r → WritesPair saysOf numbers give due v oi ov r oi ov
   refused-writes e told =
       record {
         answer = told;
@@ -39,7 +39,7 @@ module _ {A : Type 0} {saysOf : A → Says} {numbers : List ℕ} {give : Checked
 
   pub done-writes : {oi′ : List ℕ} {ov′ : List Float} → due ≡ Valid → Answers saysOf numbers give due r
       → oi′ ≡ v .indexes ++ drop (size v) oi → length (v .values) ≡ size v → ov′ ≡ v .values ++ drop (size v) ov
-      → Writes saysOf numbers give due v oi ov r oi′ ov′
+      → WritesPair saysOf numbers give due v oi ov r oi′ ov′
   done-writes e told is many vs =
       record {
         answer = told;
@@ -48,6 +48,6 @@ module _ {A : Type 0} {saysOf : A → Says} {numbers : List ℕ} {give : Checked
       }
 
   -- two outcomes that keep the promise are equal
-  pub one-writes : {s : A} {oi′ oi″ : List ℕ} {ov′ ov″ : List Float} → Writes saysOf numbers give due v oi ov r oi′ ov′
-      → Writes saysOf numbers give due v oi ov s oi″ ov″ → (r ≡ s) × (oi′ ≡ oi″) × (ov′ ≡ ov″)
+  pub one-writes : {s : A} {oi′ oi″ : List ℕ} {ov′ ov″ : List Float} → WritesPair saysOf numbers give due v oi ov r oi′ ov′
+      → WritesPair saysOf numbers give due v oi ov s oi″ ov″ → (r ≡ s) × (oi′ ≡ oi″) × (ov′ ≡ ov″)
   one-writes p q = (one-answer (p .answer) (q .answer), p .indexes ∙ sym (q .indexes), p .values ∙ sym (q .values))

@@ -56,7 +56,7 @@ abbrev pub roomOf : ℕ → ℕ → ℕ → Checked
 roomOf n indexes values = refuse (ltb indexes n || ltb values n) ROOM n Valid
 
 -- a call answers, and leaves the vector v in a lent pair of lists, in front of what stood there; or the lists as they were
-pub record Writes {A : Type 0} (saysOf : A → Says) (numbers : List ℕ) (give : Checked → A) (due : Checked) (v : Vector)
+pub record WritesPair {A : Type 0} (saysOf : A → Says) (numbers : List ℕ) (give : Checked → A) (due : Checked) (v : Vector)
     (oi : List ℕ) (ov : List Float) (r : A) (oi′ : List ℕ) (ov′ : List Float) : Type 0 where
   pub answer : Answers saysOf numbers give due r
   pub indexes : oi′ ≡ leaves due (v .indexes) oi
