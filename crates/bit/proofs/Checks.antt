@@ -1,15 +1,15 @@
 -- What a check answers, and what is known of a vector that passed. Assumes nothing.
 use Prim.Native.Nat.{ℕ, _-_, _/_, _%_, _^_, _≤_, _<_}
 use native.Mathlib.Omega.{arith}
-use mathlib.Core.Bool.{Bool, true, false, not, _||_, or-true}
+use mathlib.Core.Bool.{Bool, true, false, not}
 use mathlib.Core.List.{List}
 use mathlib.Core.Path.{_≡_, refl}
-use lib.Dec.{ltb, eqb}
+use lib.Dec.{eqb}
 use lib.ListN.{length, getD}
-use borrow.Author.Tests.{eq-eqb, ne-eqb, lt-ltb, le-ltb, eqb-true, eqb-false, ltb-false}
-use Rattle.refusal.specs.Answers.{refuse}
+use borrow.Author.Tests.{eq-eqb, ne-eqb, eqb-true, not-false}
 use Rattle.refusal.specs.declared.Checked.the-variants.{Valid, Refused}
-use Rattle.refusal.proofs.Chains.{refused-valid}
+use Rattle.refusal.proofs.Chains.{refuse-valid}
+use Rattle.refusal.proofs.Dims.{in-range, range-in}
 use Rattle.bit.specs.Bits.{bitAt, wordsFor}
 use Rattle.bit.specs.Calls.{badDims, padded, checkedOf}
 use Rattle.bit.proofs.Vectors.{clear-padded, padded-clear, last-clear, clear-last}
@@ -21,18 +21,6 @@ pub record Sound (d : ℕ) (ws : List ℕ) : Type 0 where
   pub long : length ws ≡ wordsFor d
   pub clear : (i : ℕ) → d ≤ i → bitAt ws i ≡ false
 
-pub some : (n : ℕ) → (n ≡ 0 → ⊥) → 1 ≤ n
-some n h = omega arith
-
-pub bad-zero : (d : ℕ) → d ≡ 0 → badDims d ≡ true
-bad-zero d e = rw (eq-eqb d 0 e)
-
-pub bad-high : (d : ℕ) → 65535 < d → badDims d ≡ true
-bad-high d h = rw (lt-ltb 65535 d h, or-true)
-
-pub good-dims : (d : ℕ) → 1 ≤ d → d ≤ 65535 → badDims d ≡ false
-good-dims d l h = rw (ne-eqb d 0 (λ e. omega arith), le-ltb 65535 d h)
-
 module _ (d : ℕ) (ws : List ℕ) where
   pub refused-dims : badDims d ≡ true → checkedOf d ws ≡ Refused 1 0
   unfolding checkedOf
@@ -40,33 +28,29 @@ module _ (d : ℕ) (ws : List ℕ) where
 
   pub refused-length : 1 ≤ d → d ≤ 65535 → (length ws ≡ wordsFor d → ⊥) → checkedOf d ws ≡ Refused 2 0
   unfolding checkedOf
-  refused-length l h other = rw (good-dims d l h, ne-eqb (length ws) (wordsFor d) other)
+  refused-length l h other = rw (in-range 65535 d l h, ne-eqb (length ws) (wordsFor d) other)
 
   pub refused-padding : 1 ≤ d → d ≤ 65535 → length ws ≡ wordsFor d → padded d ws ≡ true → checkedOf d ws ≡ Refused 6 (length ws - 1)
   unfolding checkedOf
-  refused-padding l h e p = rw (good-dims d l h, eq-eqb (length ws) (wordsFor d) e, p)
+  refused-padding l h e p = rw (in-range 65535 d l h, eq-eqb (length ws) (wordsFor d) e, p)
 
   pub valid : Sound d ws → checkedOf d ws ≡ Valid
   unfolding checkedOf
-  valid s = rw (good-dims d (s .low) (s .high), eq-eqb (length ws) (wordsFor d) (s .long), clear-padded d ws (record { clear = s .clear }))
+  valid s = rw (in-range 65535 d (s .low) (s .high), eq-eqb (length ws) (wordsFor d) (s .long), clear-padded d ws (record { clear = s .clear }))
 
   pub sound : checkedOf d ws ≡ Valid → Sound d ws
   unfolding checkedOf
-  sound passed = go (eqb d 0) (ltb 65535 d) (eqb (length ws) (wordsFor d)) (padded d ws) refl refl refl refl passed
-    where
-      go : (z h l p : Bool) → eqb d 0 ≡ z → ltb 65535 d ≡ h → eqb (length ws) (wordsFor d) ≡ l → padded d ws ≡ p
-          → refuse (z || h) 1 0 (refuse (not l) 2 0 (refuse p 6 (length ws - 1) Valid)) ≡ Valid → Sound d ws
-      go true h l p ez eh el ep e = absurd (refused-valid e)
-      go false true l p ez eh el ep e = absurd (refused-valid e)
-      go false false false p ez eh el ep e = absurd (refused-valid e)
-      go false false true true ez eh el ep e = absurd (refused-valid e)
-      go false false true false ez eh el ep e =
-          record {
-            low = some d (eqb-false d 0 ez);
-            high = ltb-false 65535 d eh;
-            long = eqb-true (length ws) (wordsFor d) el;
-            clear = padded-clear d ws ep .clear;
-          }
+  sound passed =
+      let a = refuse-valid (badDims d) 1 0 _ passed in
+      let b = refuse-valid (not (eqb (length ws) (wordsFor d))) 2 0 _ (a .1) in
+      let c = refuse-valid (padded d ws) 6 _ _ (b .1) in
+      let r = range-in 65535 d (a .0) in
+      record {
+        low = r .0;
+        high = r .1;
+        long = eqb-true (length ws) (wordsFor d) (not-false (eqb (length ws) (wordsFor d)) (b .0));
+        clear = padded-clear d ws (c .0) .clear;
+      }
 
   -- the test of the last word decides the padding
   module _ (l : 1 ≤ d) (h : d ≤ 65535) (e : length ws ≡ wordsFor d) where

@@ -1,18 +1,16 @@
 -- Two vectors that passed, put together: what their words have is what their bits have. Assumes nothing.
 use Prim.Native.Nat.{ℕ, _+_, _*_, _^_, _≤_, _<_}
 use native.Mathlib.Omega.{arith}
-use mathlib.Core.Bool.{Bool, true, false, not, and-self}
+use mathlib.Core.Bool.{false, and-self}
 use mathlib.Core.List.{List}
 use mathlib.Core.Logic.{⊎-elim}
 use mathlib.Core.Path.{_≡_, refl, sym, ap, _∙_}
-use lib.Dec.{eqb}
 use lib.ListN.{length, getD}
-use borrow.Author.Tests.{lt-ltb, le-ltb, eqb-true}
+use borrow.Author.Tests.{lt-ltb, le-ltb}
 use Rattle.places.specs.Below.{countBelow, listBelow}
 use Rattle.places.proofs.Below.{count-rest, count-same, list-same, le-or-lt}
-use Rattle.refusal.specs.Answers.{refuse}
 use Rattle.refusal.specs.declared.Checked.the-variants.{Valid}
-use Rattle.refusal.proofs.Chains.{refused-valid, next-valid}
+use Rattle.refusal.proofs.Chains.{next-valid, differ-valid}
 use Rattle.bit.specs.Bits.{bitAt, both, meets, join, cut, wordFrom, wordsOf}
 use Rattle.bit.specs.Calls.{checkedOf, eachOf, pairOf}
 use Rattle.bit.specs.Words.{Alike, onesOf, joins}
@@ -36,12 +34,8 @@ pair-of {a = a} {b} s same = record { left = s .0; right = rw same (s .1); equal
 
 pub pair-sound : (d : ℕ) (a : List ℕ) (e : ℕ) (b : List ℕ) → pairOf d a e b ≡ Valid → Pair d a e b
 pair-sound d a e b passed =
-    let v = next-valid (eachOf d a e b) (refuse (not (eqb d e)) 7 0 Valid) passed in
-    pair-of (each-sound d a e b (v .0)) (go (eqb d e) refl (v .1))
-  where
-    go : (t : Bool) → eqb d e ≡ t → refuse (not t) 7 0 Valid ≡ Valid → d ≡ e
-    go true q r = eqb-true d e q
-    go false q r = absurd (refused-valid r)
+    let v = differ-valid (eachOf d a e b) d e passed in
+    pair-of (each-sound d a e b (v .0)) (v .1)
 
 -- a vector that passed, and itself
 pub itself : (d : ℕ) (a : List ℕ) → checkedOf d a ≡ Valid → Pair d a d a

@@ -6,6 +6,7 @@ use lib.Dec.{leb, ltb, eqb}
 use lib.ListN.{length}
 use Rattle.places.specs.Below.{anyBelow, countBelow}
 use Rattle.refusal.specs.Numbers.{DIMS, LENGTH, PADDING, DIFFER, ROOM}
+use Rattle.refusal.specs.Dims.{outside}
 use Rattle.refusal.specs.Answers.{refuse, next, Says, says, Answers, Writes}
 use Rattle.refusal.specs.declared.Checked.{Checked}
 use Rattle.refusal.specs.declared.Checked.the-variants.{Valid, Refused}
@@ -20,7 +21,7 @@ use Rattle.bit.specs.declared.Counts.the-variants.{Ones as Both, Refused
 
 -- "dims in 1..=65,535" does not hold
 abbrev pub badDims : ℕ → Bool
-badDims d = eqb d 0 || ltb 65535 d
+badDims = outside 65535
 
 -- "a padding bit is set": some place at or above dims that the words have holds a one. The number of words is tested first, so that
 -- such a place is in the last word

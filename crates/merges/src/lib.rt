@@ -21,7 +21,7 @@ pub enum Op {
 }
 
 // One place of a sum.
-pub fn add_cells(x: Cell, y: Cell) -> Cell
+fn add_cells(x: Cell, y: Cell) -> Cell
     ensures { λ r. ⌜ r ≡ added x y ⌝ }
 {
     match x {

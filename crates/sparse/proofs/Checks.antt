@@ -2,47 +2,23 @@
 use Prim.Native.Nat.{ℕ, zero, suc, _+_, _-_, _≤_, _<_, zero-le}
 use native.Mathlib.Nat.{eq-or-lt-of-le, le-of-suc-le-suc}
 use native.Mathlib.Omega.{arith}
-use mathlib.Core.Bool.{Bool, true, false, not, _||_, or-true, true≢false}
+use mathlib.Core.Bool.{Bool, true, false, not, true≢false}
 use mathlib.Core.List.{List}
 use mathlib.Core.Logic.{⊎-elim}
-use mathlib.Core.Path.{_≡_, refl, sym, ap, _∙_}
-use lib.Dec.{leb, ltb, eqb}
+use mathlib.Core.Path.{_≡_, sym, ap, _∙_}
+use lib.Dec.{leb, eqb}
 use lib.ListN.{length, getD}
-use borrow.Author.Tests.{eq-eqb, ne-eqb, lt-ltb, le-ltb, lt-leb, eqb-true, eqb-false, ltb-false, leb-false}
+use borrow.Author.Tests.{eq-eqb, ne-eqb, lt-ltb, le-ltb, lt-leb, eqb-true, leb-false, not-false}
 use Rattle.places.specs.Below.{countBelow, anyBelow}
 use Rattle.places.specs.Search.{firstFrom}
 use Rattle.places.proofs.Below.{le-or-lt, any-count, any-false, any-none}
-use Rattle.refusal.specs.Answers.{refuse}
 use Rattle.refusal.specs.declared.Checked.the-variants.{Valid, Refused}
-use Rattle.refusal.proofs.Chains.{next-valid, refuse-valid}
+use Rattle.refusal.proofs.Chains.{next-valid, refuse-valid, differ-valid}
+use Rattle.refusal.proofs.Dims.{in-range, range-in}
 use Rattle.sparse.specs.Vectors.{Vector, vector, size}
 use Rattle.sparse.specs.Calls.{badDims, falls, tooHigh, zeroAt, checkedOf, eachOf, pairOf}
 use Rattle.sparse.specs.Walk.{Rising, Sound}
 use Rattle.sparse.proofs.Falls.{rises, falls-at, first-rises}
-
-pub bad-zero : (d : ℕ) → d ≡ 0 → badDims d ≡ true
-bad-zero d e = rw (eq-eqb d 0 e)
-
-pub bad-high : (d : ℕ) → 1048575 < d → badDims d ≡ true
-bad-high d h = rw (lt-ltb 1048575 d h, or-true)
-
-pub some : (n : ℕ) → (n ≡ 0 → ⊥) → 1 ≤ n
-some n h = omega arith
-
-pub good-dims : (d : ℕ) → 1 ≤ d → d ≤ 1048575 → badDims d ≡ false
-good-dims d l h = rw (ne-eqb d 0 (λ e. omega arith), le-ltb 1048575 d h)
-
-pub dims-good : (d : ℕ) → badDims d ≡ false → (1 ≤ d) × (d ≤ 1048575)
-dims-good d e = go (eqb d 0) (ltb 1048575 d) refl refl e
-  where
-    go : (z h : Bool) → eqb d 0 ≡ z → ltb 1048575 d ≡ h → (z || h) ≡ false → (1 ≤ d) × (d ≤ 1048575)
-    go false false ez eh q = (some d (eqb-false d 0 ez), ltb-false 1048575 d eh)
-    go true h ez eh q = absurd (true≢false q)
-    go false true ez eh q = absurd (true≢false q)
-
-not-false : (b : Bool) → not b ≡ false → b ≡ true
-not-false true e = refl
-not-false false e = absurd (true≢false e)
 
 -- a count that is not 0 found one
 some-any : (t : ℕ → Bool) (n : ℕ) → (countBelow t n ≡ 0 → ⊥) → anyBelow t n ≡ true
@@ -65,18 +41,18 @@ module _ (v : Vector) where
   module _ (l : 1 ≤ v .dims) (h : v .dims ≤ 1048575) where
     pub refused-length : (size v ≡ length (v .values) → ⊥) → checkedOf v ≡ Refused 2 0
     unfolding checkedOf
-    refused-length other = rw (good-dims (v .dims) l h, ne-eqb (size v) (length (v .values)) other)
+    refused-length other = rw (in-range 1048575 (v .dims) l h, ne-eqb (size v) (length (v .values)) other)
 
     module _ (even : size v ≡ length (v .values)) where
       pub refused-order : (countBelow (falls (v .indexes)) (size v) ≡ 0 → ⊥) → checkedOf v ≡ Refused 3 (firstFrom (falls (v .indexes)) (size v) 0)
       unfolding checkedOf
-      refused-order some = rw (good-dims (v .dims) l h, eq-eqb (size v) (length (v .values)) even, some-any (falls (v .indexes)) (size v) some)
+      refused-order some = rw (in-range 1048575 (v .dims) l h, eq-eqb (size v) (length (v .values)) even, some-any (falls (v .indexes)) (size v) some)
 
       module _ (up : countBelow (falls (v .indexes)) (size v) ≡ 0) where
         pub refused-index : tooHigh (v .dims) (v .indexes) ≡ true → checkedOf v ≡ Refused 4 (size v - 1)
         unfolding checkedOf
         refused-index high =
-            rw (good-dims (v .dims) l h, eq-eqb (size v) (length (v .values)) even, none-any (falls (v .indexes)) (size v) up, high)
+            rw (in-range 1048575 (v .dims) l h, eq-eqb (size v) (length (v .values)) even, none-any (falls (v .indexes)) (size v) up, high)
 
         module _ (low : tooHigh (v .dims) (v .indexes) ≡ false) where
           pub refused-zero : (countBelow (zeroAt (v .values)) (length (v .values)) ≡ 0 → ⊥)
@@ -84,7 +60,7 @@ module _ (v : Vector) where
           unfolding checkedOf
           refused-zero some =
               rw (
-                good-dims (v .dims) l h,
+                in-range 1048575 (v .dims) l h,
                 eq-eqb (size v) (length (v .values)) even,
                 none-any (falls (v .indexes)) (size v) up,
                 low,
@@ -95,7 +71,7 @@ module _ (v : Vector) where
           unfolding checkedOf
           passes none =
               rw (
-                good-dims (v .dims) l h,
+                in-range 1048575 (v .dims) l h,
                 eq-eqb (size v) (length (v .values)) even,
                 none-any (falls (v .indexes)) (size v) up,
                 low,
@@ -149,8 +125,8 @@ sound v passed =
     let up = steps-rise (v .indexes) (λ j l. any-false (falls (v .indexes)) (size v) j (c .0) l) in
     let even = eqb-true (size v) (length (v .values)) (not-false (eqb (size v) (length (v .values))) (b .0)) in
     record {
-      low = dims-good (v .dims) (a .0) .0;
-      high = dims-good (v .dims) (a .0) .1;
+      low = range-in 1048575 (v .dims) (a .0) .0;
+      high = range-in 1048575 (v .dims) (a .0) .1;
       even = even;
       rising = up;
       below = all-below (v .dims) (v .indexes) up (d .0);
@@ -161,7 +137,7 @@ pub valid : (v : Vector) → Sound v → checkedOf v ≡ Valid
 unfolding checkedOf
 valid v s =
     rw (
-      good-dims (v .dims) (s .low) (s .high),
+      in-range 1048575 (v .dims) (s .low) (s .high),
       eq-eqb (size v) (length (v .values)) (s .even),
       any-none (falls (v .indexes)) (size v) (rise-steps (v .indexes) (s .rising)),
       below-all (v .dims) (v .indexes) (s .below),
@@ -202,7 +178,6 @@ same-dims a b e s = record {
 
 pub pair-sound : (a b : Vector) → pairOf a b ≡ Valid → Sound a × Sound (vector (a .dims) (b .indexes) (b .values))
 pair-sound a b passed =
-    let v = next-valid (eachOf a b) (refuse (not (eqb (a .dims) (b .dims))) 7 0 Valid) passed in
+    let v = differ-valid (eachOf a b) (a .dims) (b .dims) passed in
     let s = each-sound a b (v .0) in
-    let d = refuse-valid (not (eqb (a .dims) (b .dims))) 7 0 Valid (v .1) in
-    (s .0, same-dims a b (eqb-true (a .dims) (b .dims) (not-false (eqb (a .dims) (b .dims)) (d .0))) (s .1))
+    (s .0, same-dims a b (v .1) (s .1))

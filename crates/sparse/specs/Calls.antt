@@ -9,6 +9,7 @@ use lib.Ieee.{Float, nan}
 use Rattle.places.specs.Below.{anyBelow}
 use Rattle.places.specs.Search.{firstFrom}
 use Rattle.refusal.specs.Numbers.{DIMS, LENGTH, ORDER, INDEX, ZERO, DIFFER, ROOM}
+use Rattle.refusal.specs.Dims.{outside}
 use Rattle.refusal.specs.Answers.{refuse, next, Says, Answers, leaves}
 use Rattle.refusal.specs.declared.Checked.{Checked}
 use Rattle.refusal.specs.declared.Checked.the-variants.{Valid}
@@ -17,7 +18,7 @@ use Rattle.sparse.specs.Vectors.{Vector, size}
 
 -- "dims in 1..=1,048,575" does not hold
 abbrev pub badDims : ℕ → Bool
-badDims d = eqb d 0 || ltb 1048575 d
+badDims = outside 1048575
 
 -- the entry j has an entry before it, and its index is not above that one's
 abbrev pub falls : List ℕ → ℕ → Bool

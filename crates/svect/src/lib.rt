@@ -1,6 +1,8 @@
 // Sparse f32 vectors: a vector is its dims, its indexes and its values. Every call tests the vectors it
 // is given, the left one first; a refusal leaves the lent lists as they were.
 
+mod orders;
+
 use folds::Summed;
 use refusal::Asked;
 use refusal::Bound;
@@ -19,7 +21,7 @@ ghost use Rattle.sparse.specs.Walk.{Rising, Split};
 ghost use Rattle.merges.specs.Calls.{Joins};
 ghost use Rattle.merges.specs.declared.Op.the-variants.{Add, Sub, Mul};
 ghost use Rattle.folds.specs.Calls.{Dots, L2s, SumsThree};
-ghost use Rattle.svect.specs.Orders.{compared, alone, entriesDecide, decided};
+ghost use Rattle.svect.specs.Orders.{decided};
 ghost use Rattle.svect.specs.Calls.{Zeroes, Cuts, Equals, Compares};
 ghost use Rattle.svect.specs.Loops.{entries, Reach, firstOther, Part, Moved};
 
@@ -245,45 +247,6 @@ pub fn eq(dims_a: u32, ia: &[u32], va: &[f32], dims_b: u32, ib: &[u32], vb: &[f3
     Asked::Yes
 }
 
-// How two values compare. A NaN has no order.
-fn compare(x: f32, y: f32) -> Ordering
-    ensures { λ r. ⌜ r ≡ compared x y ⌝ }
-{
-    if x < y {
-        return Ordering::Less;
-    }
-    if y < x {
-        return Ordering::Greater;
-    }
-    if x == y {
-        return Ordering::Equal;
-    }
-    Ordering::Unordered
-}
-
-// How a value compares with the zero of a place that the other side does not have.
-fn compare_alone(x: f32, y: f32) -> Ordering
-    ensures { λ r. ⌜ r ≡ alone x y ⌝ }
-{
-    if x < y {
-        return Ordering::Less;
-    }
-    Ordering::Greater
-}
-
-// How two entries compare.
-fn compare_entries(i: u32, x: f32, j: u32, y: f32) -> Ordering
-    ensures { λ r. ⌜ r ≡ entriesDecide i x j y ⌝ }
-{
-    if i == j {
-        return compare(x, y);
-    }
-    if i < j {
-        return compare_alone(x, 0.0);
-    }
-    compare_alone(0.0, y)
-}
-
 // How two vectors compare of which the first i entries are alike.
 fn compare_at(ia: &[u32], va: &[f32], ib: &[u32], vb: &[f32], i: usize) -> Ordering
     requires { ⌜ (length (now ia) ≡ length (now va)) × (length (now ib) ≡ length (now vb)) ⌝ }
@@ -291,12 +254,12 @@ fn compare_at(ia: &[u32], va: &[f32], ib: &[u32], vb: &[f32], i: usize) -> Order
 {
     if i < ia.len() {
         if i < ib.len() {
-            return compare_entries(ia[i], va[i], ib[i], vb[i]);
+            return orders::compare_entries(ia[i], va[i], ib[i], vb[i]);
         }
-        return compare(va[i], 0.0);
+        return orders::compare(va[i], 0.0);
     }
     if i < ib.len() {
-        return compare(0.0, vb[i]);
+        return orders::compare(0.0, vb[i]);
     }
     Ordering::Equal
 }

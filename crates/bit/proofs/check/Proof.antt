@@ -4,9 +4,10 @@ use native.Mathlib.Omega.{arith}
 use Prim.Native.Nat.{_-_, _≤_}
 use mathlib.Core.Path.{_≡_, sym, _∙_}
 use lib.ListN.{length}
+use Rattle.refusal.proofs.Dims.{some, zero-outside, high-outside}
 use Rattle.refusal.proofs.Told.{checked-answer}
 use Rattle.bit.specs.Bits.{wordsFor}
-use Rattle.bit.proofs.Checks.{some, bad-zero, bad-high, refused-dims, refused-length, last-refused, last-valid}
+use Rattle.bit.proofs.Checks.{refused-dims, refused-length, last-refused, last-valid}
 use Rattle.bit.proofs.check.Statement.{statement}
 use Rattle.bit.proofs.check.Tie as tie
 
@@ -18,10 +19,10 @@ long : (c : tie.Else3) → let a = c .before .before .before .before .before .ar
 long c = c .if3 .left ∙ c .before .words-for .ensures
 
 returns : tie.Need-returns
-returns c = checked-answer (sym (refused-dims _ _ (bad-zero _ (c .if1 .taken))))
+returns c = checked-answer (sym (refused-dims _ _ (zero-outside 65535 _ (c .if1 .taken))))
 
 returns-2 : tie.Need-returns-2
-returns-2 c = checked-answer (sym (refused-dims _ _ (bad-high (c .before .before .before .args .dims) (omega arith))))
+returns-2 c = checked-answer (sym (refused-dims _ _ (high-outside 65535 (c .before .before .before .args .dims) (omega arith))))
 
 words-for-requires : tie.Need-words-for-requires
 words-for-requires c κs = search needs

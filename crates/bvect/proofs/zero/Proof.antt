@@ -5,23 +5,23 @@ use native.Mathlib.Omega.{arith}
 use mathlib.Core.Bool.{false}
 use mathlib.Core.Path.{_≡_}
 use lib.ListN.{length}
+use Rattle.refusal.proofs.Dims.{some, zero-outside, high-outside, in-range}
 use Rattle.refusal.proofs.Told.{refused-writes}
 use Rattle.bit.specs.Bits.{wordsFor}
 use Rattle.bit.specs.Calls.{badDims}
-use Rattle.bit.proofs.Checks.{some, bad-zero, bad-high, good-dims}
 use Rattle.bvect.proofs.Slices.{none-writes}
 use Rattle.bvect.proofs.zero.Statement.{statement}
 use Rattle.bvect.proofs.zero.Tie as tie
 
 -- dims passed
 good : (c : tie.Else2) → badDims (c .before .before .before .args .dims) ≡ false
-good c = good-dims (c .before .before .before .args .dims) (some _ (c .before .if1 .left)) (omega arith)
+good c = in-range 65535 (c .before .before .before .args .dims) (some _ (c .before .if1 .left)) (omega arith)
 
 returns : tie.Need-returns
-returns c = refused-writes _ _ (rw (bad-zero _ (c .if1 .taken)))
+returns c = refused-writes _ _ (rw (zero-outside 65535 _ (c .if1 .taken)))
 
 returns-2 : tie.Need-returns-2
-returns-2 c = refused-writes _ _ (rw (bad-high (c .before .before .before .args .dims) (omega arith)))
+returns-2 c = refused-writes _ _ (rw (high-outside 65535 (c .before .before .before .args .dims) (omega arith)))
 
 words-for-requires : tie.Need-words-for-requires
 words-for-requires c κs = search needs

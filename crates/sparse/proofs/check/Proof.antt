@@ -7,10 +7,11 @@ use lib.ListN.{length}
 use borrow.Author.Needs.{needs}
 use Rattle.places.specs.Below.{countBelow}
 use Rattle.refusal.specs.declared.Checked.the-variants.{Refused}
+use Rattle.refusal.proofs.Dims.{some, zero-outside, high-outside}
 use Rattle.refusal.proofs.Told.{checked-answer}
 use Rattle.sparse.specs.Vectors.{Vector, vector, size}
 use Rattle.sparse.specs.Calls.{falls, tooHigh}
-use Rattle.sparse.proofs.Checks.{some, bad-zero, bad-high, high-some}
+use Rattle.sparse.proofs.Checks.{high-some}
 use Rattle.sparse.proofs.Checks.{refused-dims, refused-length, refused-order, refused-index, refused-zero, passes}
 use Rattle.sparse.proofs.check.Statement.{statement}
 use Rattle.sparse.proofs.check.Tie as tie
@@ -41,10 +42,10 @@ below : (c : tie.Else5) → let v = given (ranged (c .before .before)) in tooHig
 below c = sym (c .before .too-high .ensures) ∙ c .if5 .left
 
 returns : tie.Need-returns
-returns c = checked-answer (sym (refused-dims _ (bad-zero _ (c .if1 .taken))))
+returns c = checked-answer (sym (refused-dims _ (zero-outside 1048575 _ (c .if1 .taken))))
 
 returns-2 : tie.Need-returns-2
-returns-2 c = checked-answer (sym (refused-dims _ (bad-high (c .before .before .before .before .args .dims) (omega arith))))
+returns-2 c = checked-answer (sym (refused-dims _ (high-outside 1048575 (c .before .before .before .before .args .dims) (omega arith))))
 
 returns-3 : tie.Need-returns-3
 returns-3 c = let t = c .before in checked-answer (sym (refused-length (given t) (low t) (high t) (c .if3 .taken)))

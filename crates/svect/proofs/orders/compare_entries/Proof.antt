@@ -1,8 +1,8 @@
--- `svect::compare_entries` meets its contract: its tests are those of the definition, in their order. Assumes nothing.
+-- `svect::orders::compare_entries` meets its contract: its tests are those of the definition, in their order. Assumes nothing.
 use borrow.Author.Tests.{eq-eqb, ne-eqb, lt-ltb, le-ltb}
 use borrow.Author.Needs.{needs}
-use Rattle.svect.proofs.compare_entries.Statement.{statement}
-use Rattle.svect.proofs.compare_entries.Tie as tie
+use Rattle.svect.proofs.orders.compare_entries.Statement.{statement}
+use Rattle.svect.proofs.orders.compare_entries.Tie as tie
 
 compare-requires : tie.Need-compare-requires
 compare-requires c κs = search needs

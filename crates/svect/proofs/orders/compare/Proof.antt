@@ -1,6 +1,6 @@
--- `svect::compare` meets its contract: its tests are those of the definition, in their order. Assumes nothing.
-use Rattle.svect.proofs.compare.Statement.{statement}
-use Rattle.svect.proofs.compare.Tie as tie
+-- `svect::orders::compare` meets its contract: its tests are those of the definition, in their order. Assumes nothing.
+use Rattle.svect.proofs.orders.compare.Statement.{statement}
+use Rattle.svect.proofs.orders.compare.Tie as tie
 
 returns : tie.Need-returns
 returns c = rw (c .if1 .taken)
