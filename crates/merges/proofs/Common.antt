@@ -17,7 +17,7 @@ use Rattle.sparse.specs.declared.Cell.{Cell}
 use Rattle.sparse.specs.declared.Cell.the-variants.{Empty, Full}
 use Rattle.sparse.specs.declared.Turn.{Turn}
 use Rattle.sparse.proofs.Look.{look-end}
-use Rattle.sparse.proofs.Entries.{indexes-empty, values-empty, put-most, Written, written-at, written-lengths}
+use Rattle.sparse.proofs.Entries.{put-most, Written, written-empty, written-lengths}
 use Rattle.sparse.proofs.Walk.{Going, kept-up, taken-next}
 use Rattle.merges.specs.Algebra.{multiplied, joins, commonEnd, commonTurns}
 use Rattle.merges.specs.Loops.{Ready, Fills}
@@ -92,7 +92,7 @@ pub record Multiplying (a b : Vector) (oi : List ℕ) (ov : List Float) (oi′ :
   pub few : n ≤ p
   pub few′ : n ≤ q
   pub steps : turns ≤ p + q
-  pub going : Going a b (commonEnd a b) (Made Mul a b oi ov oi′ ov′ n turns) p q
+  pub going : Going a b (commonEnd a b) (Made Mul 0 a b oi ov oi′ ov′ n turns) p q
 
 pub multiplying-start : {a b : Vector} {oi : List ℕ} {ov : List Float} → Multiplying a b oi ov oi ov 0 0 0 0
 multiplying-start {a} {b} = record { few = omega arith; few′ = omega arith; steps = omega arith; going = made-start Mul a b }
@@ -135,6 +135,6 @@ module _ {a b : Vector} {oi : List ℕ} {ov : List Float} (r : Ready a b (min (s
       let empty = rest ended in
       let w =
       kept-up (Written (joinAt Mul a b) oi ov oi′ ov′ n) (g .front) (a .dims) (omega (arith, g .inside, common-most (r .left) (r .right)))
-      (λ i lo hi w. written-at w (suc i) (indexes-empty (joinAt Mul a b) i (empty i lo)) (values-empty (joinAt Mul a b) i (empty i lo)))
+      (λ i lo hi w. written-empty w (empty i lo))
       (g .holds .wrote) in
-      made-merged Mul a b (commonEnd a b) w (rw (← same) (g .holds .turned))
+      made-merged Mul a b (commonEnd a b) w (rw (← same) (omega (arith, g .holds .turned)))

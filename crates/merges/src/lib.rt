@@ -20,8 +20,8 @@ pub enum Op {
     Mul,
 }
 
-// One place of a sum.
-fn add_cells(x: Cell, y: Cell) -> Cell
+// One place of a sum. For the merge in place too.
+pub fn add_cells(x: Cell, y: Cell) -> Cell
     ensures { λ r. ⌜ r ≡ added x y ⌝ }
 {
     match x {
@@ -73,9 +73,9 @@ fn join_cells(op: Op, x: Cell, y: Cell) -> Cell
 }
 
 // The entries written, and the turns taken.
-struct Both {
-    len: usize,
-    turns: usize,
+pub struct Both {
+    pub len: usize,
+    pub turns: usize,
 }
 
 // Writes what two vectors of equal dims give, walking over both to the end of both.

@@ -76,9 +76,11 @@ unfolding indexesBelow valuesBelow
 written-none = record { count = refl; indexes = refl; values = refl }
 
 module _ {f : ℕ → Cell} {oi : List ℕ} {ov : List Float} {oi′ : List ℕ} {ov′ : List Float} {n k : ℕ} (w : Written f oi ov oi′ ov′ n k) where
-  -- no entry between k and m
-  pub written-at : (m : ℕ) → indexesBelow f m ≡ indexesBelow f k → valuesBelow f m ≡ valuesBelow f k → Written f oi ov oi′ ov′ n m
-  written-at m e g = record { count = rw e (w .count); indexes = rw e (w .indexes); values = rw g (w .values) }
+  -- an empty place more
+  pub written-empty : f k ≡ Empty → Written f oi ov oi′ ov′ n (suc k)
+  written-empty e =
+      let i = indexes-empty f k e in
+      record { count = rw i (w .count); indexes = rw i (w .indexes); values = rw (values-empty f k e) (w .values) }
 
   -- the stores leave the lengths
   pub written-lengths : n ≤ length oi → n ≤ length ov → (length oi′ ≡ length oi) × (length ov′ ≡ length ov)

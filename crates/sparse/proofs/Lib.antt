@@ -8,3 +8,5 @@ pub mod Meaning
 pub mod Turns
 pub mod Walk
 pub mod Writes
+pub mod Halves
+pub mod Slices

@@ -7,12 +7,14 @@ use mathlib.Core.Path.{_≡_, sym, ap, _∙_}
 use lib.ListN.{length, drop}
 use lib.Ieee.{Float}
 use borrow.Author.Tests.{lt-ltb, le-ltb}
-use Rattle.refusal.specs.Answers.{Says, Answers, leaves}
+use Rattle.refusal.specs.Answers.{Says, Answers, leaves, writtenOf}
 use Rattle.refusal.specs.declared.Checked.{Checked}
 use Rattle.refusal.specs.declared.Checked.the-variants.{Valid, Refused}
+use Rattle.refusal.specs.declared.Written.the-variants.{Done, Refused as NotWritten}
+use Rattle.refusal.proofs.Told.{written-answer}
 use Rattle.refusal.proofs.Only.{one-answer}
 use Rattle.sparse.specs.Vectors.{Vector, size}
-use Rattle.sparse.specs.Calls.{roomOf, WritesPair}
+use Rattle.sparse.specs.Calls.{roomOf, WritesPair, Leaves}
 
 -- ---- the test of the room
 
@@ -51,3 +53,18 @@ module _ {A : Type 0} {saysOf : A → Says} {numbers : List ℕ} {give : Checked
   pub one-writes : {s : A} {oi′ oi″ : List ℕ} {ov′ ov″ : List Float} → WritesPair saysOf numbers give due v oi ov r oi′ ov′
       → WritesPair saysOf numbers give due v oi ov s oi″ ov″ → (r ≡ s) × (oi′ ≡ oi″) × (ov′ ≡ ov″)
   one-writes p q = (one-answer (p .answer) (q .answer), p .indexes ∙ sym (q .indexes), p .values ∙ sym (q .values))
+
+-- ---- a vector that is written, or refused
+
+module _ (v : Vector) {due : Checked} {oi : List ℕ} {ov : List Float} where
+  pub refused : {n p : ℕ} → due ≡ Refused n p → Leaves due v oi ov (NotWritten n p) oi ov
+  refused e = refused-writes e (written-answer (v .dims) (size v) (ap (writtenOf (v .dims) (size v)) (sym e)))
+
+  pub done : {n : ℕ} {oi′ : List ℕ} {ov′ : List Float} → due ≡ Valid → n ≡ size v → length (v .values) ≡ size v
+      → oi′ ≡ v .indexes ++ drop n oi → ov′ ≡ v .values ++ drop n ov → Leaves due v oi ov (Done (v .dims) n) oi′ ov′
+  done e count many is vs =
+      done-writes e
+      (written-answer (v .dims) (size v) (ap (Done (v .dims)) count ∙ ap (writtenOf (v .dims) (size v)) (sym e)))
+      (is ∙ ap (λ (n : ℕ). v .indexes ++ drop n oi) count)
+      many
+      (vs ∙ ap (λ (n : ℕ). v .values ++ drop n ov) count)

@@ -1,7 +1,7 @@
 -- Document 01, "What makes a vector valid", and what calls on sparse vectors refuse and write.
 use Prim.Native.Nat.{ℕ, _-_}
 use mathlib.Core.Bool.{Bool, not, _&&_, _||_}
-use mathlib.Core.List.{List}
+use mathlib.Core.List.{List, [], _∷_}
 use mathlib.Core.Path.{_≡_}
 use lib.Dec.{leb, ltb, eqb}
 use lib.ListN.{length, getD}
@@ -10,9 +10,10 @@ use Rattle.places.specs.Below.{anyBelow}
 use Rattle.places.specs.Search.{firstFrom}
 use Rattle.refusal.specs.Numbers.{DIMS, LENGTH, ORDER, INDEX, ZERO, DIFFER, ROOM}
 use Rattle.refusal.specs.Dims.{outside}
-use Rattle.refusal.specs.Answers.{refuse, next, Says, Answers, leaves}
+use Rattle.refusal.specs.Answers.{refuse, next, Says, Answers, leaves, writtenSays, writtenOf}
 use Rattle.refusal.specs.declared.Checked.{Checked}
 use Rattle.refusal.specs.declared.Checked.the-variants.{Valid}
+use Rattle.refusal.specs.declared.Written.{Written}
 use Rattle.sparse.specs.Cells.{isZero}
 use Rattle.sparse.specs.Vectors.{Vector, size}
 
@@ -62,3 +63,7 @@ pub record WritesPair {A : Type 0} (saysOf : A → Says) (numbers : List ℕ) (g
   pub answer : Answers saysOf numbers give due r
   pub indexes : oi′ ≡ leaves due (v .indexes) oi
   pub values : ov′ ≡ leaves due (v .values) ov
+
+-- the vector v is written
+abbrev pub Leaves : Checked → Vector → List ℕ → List Float → Written → List ℕ → List Float → Type 0
+Leaves due v = WritesPair writtenSays (v .dims ∷ size v ∷ []) (writtenOf (v .dims) (size v)) due v

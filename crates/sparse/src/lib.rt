@@ -11,7 +11,7 @@ ghost use Rattle.refusal.specs.Answers.{Checks};
 ghost use Rattle.sparse.specs.Cells.{keep};
 ghost use Rattle.sparse.specs.Vectors.{vector};
 ghost use Rattle.sparse.specs.Calls.{falls, tooHigh, zeroAt, checkedOf, eachOf, pairOf};
-ghost use Rattle.sparse.specs.Walk.{turn, Standing, Turned, Put};
+ghost use Rattle.sparse.specs.Walk.{turn, Standing, Turned, Put, Rising, Split};
 ghost use Rattle.sparse.specs.declared.Cell.the-variants.{Empty, Full};
 
 // What stands at a place.
@@ -251,6 +251,24 @@ pub fn put(oi: &mut [u32], ov: &mut [f32], n: usize, place: u32, z: Cell) -> usi
         return n + 1;
     }
     n
+}
+
+// How many of the rising indexes are below `place`, found by halving. For the crates above, not for users.
+pub fn partition_point(indexes: &[u32], place: u32) -> usize
+    requires { ⌜ Rising (now indexes) ⌝ }
+    ensures { λ r. ⌜ Split (now (indexes .entry)) r place ⌝ }
+{
+    let mut low: usize = 0;
+    let mut high: usize = indexes.len();
+    while low < high {
+        let middle = low + (high - low) / 2;
+        if indexes[middle] < place {
+            low = middle + 1;
+        } else {
+            high = middle;
+        }
+    }
+    low
 }
 
 // The smaller of two lengths.

@@ -13,12 +13,13 @@ use Rattle.refusal.specs.declared.Checked.the-variants.{Valid}
 use Rattle.refusal.specs.declared.Written.the-variants.{Done}
 use Rattle.refusal.proofs.Spans.{Part}
 use Rattle.sparse.specs.Vectors.{Vector, size, at}
+use Rattle.sparse.specs.Calls.{Leaves}
 use Rattle.sparse.specs.Walk.{Split, Sound}
 use Rattle.sparse.proofs.Entries.{as-many}
-use Rattle.svect.specs.Calls.{Leaves, slice}
+use Rattle.svect.specs.Calls.{slice}
 use Rattle.svect.specs.Loops.{Moved, Part as Moves}
-use Rattle.svect.proofs.Slices.{in-order, Run, run}
-use Rattle.svect.proofs.Writes.{done}
+use Rattle.sparse.proofs.Slices.{in-order, Run, run}
+use Rattle.sparse.proofs.Writes.{done}
 
 -- the bounds name the places from `start` to `end`, and the entries p to q stand there
 module _ (v : Vector) (s : Sound v) {from to : Bound} {start end p q : ℕ} (b : Part from to (v .dims) start end)

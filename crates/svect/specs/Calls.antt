@@ -16,12 +16,8 @@ use Rattle.refusal.specs.declared.Asked.{Asked}
 use Rattle.refusal.specs.declared.Ordering.{Ordering}
 use Rattle.refusal.specs.declared.Ordering.the-variants.{Unordered}
 use Rattle.sparse.specs.Vectors.{Vector, size, at, vectorOf}
-use Rattle.sparse.specs.Calls.{badDims, checkedOf, eachOf, roomOf, WritesPair}
+use Rattle.sparse.specs.Calls.{badDims, checkedOf, eachOf, roomOf, Leaves}
 use Rattle.svect.specs.Orders.{sameEntries, orderBy}
-
--- the vector v is written
-abbrev pub Leaves : Checked → Vector → List ℕ → List Float → Written → List ℕ → List Float → Type 0
-Leaves due v = WritesPair writtenSays (v .dims ∷ size v ∷ []) (writtenOf (v .dims) (size v)) due v
 
 -- the vector of d places without entries: there is nothing to write
 abbrev pub Zeroes : ℕ → Written → Type 0

@@ -17,7 +17,6 @@ ghost use lib.ListN.{length};
 ghost use Rattle.refusal.specs.Answers.{Checks};
 ghost use Rattle.sparse.specs.Vectors.{vector};
 ghost use Rattle.sparse.specs.Calls.{checkedOf};
-ghost use Rattle.sparse.specs.Walk.{Rising, Split};
 ghost use Rattle.merges.specs.Calls.{Joins};
 ghost use Rattle.merges.specs.declared.Op.the-variants.{Add, Sub, Mul};
 ghost use Rattle.folds.specs.Calls.{Dots, L2s, SumsThree};
@@ -137,24 +136,6 @@ pub fn operator_mul(
     merges::mul(dims_a, ia, va, dims_b, ib, vb, oi, ov)
 }
 
-// How many of the rising indexes are below `place`, found by halving.
-fn partition_point(indexes: &[u32], place: u32) -> usize
-    requires { ⌜ Rising (now indexes) ⌝ }
-    ensures { λ r. ⌜ Split (now (indexes .entry)) r place ⌝ }
-{
-    let mut low: usize = 0;
-    let mut high: usize = indexes.len();
-    while low < high {
-        let middle = low + (high - low) / 2;
-        if indexes[middle] < place {
-            low = middle + 1;
-        } else {
-            high = middle;
-        }
-    }
-    low
-}
-
 // Writes the n entries from `s` on, their indexes less `start`.
 fn move_part(
     indexes: &[u32],
@@ -196,8 +177,8 @@ pub fn subvector(
     let Span::Of(start, end) = span else {
         return Written::Refused(refusal::BOUNDS, 0);
     };
-    let s = partition_point(indexes, start);
-    let e = partition_point(indexes, end);
+    let s = sparse::partition_point(indexes, start);
+    let e = sparse::partition_point(indexes, end);
     let n = e - s;
     if oi.len() < n {
         return Written::Refused(refusal::ROOM, n);

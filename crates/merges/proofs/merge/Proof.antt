@@ -8,13 +8,13 @@ use borrow.Author.Needs.{needs}
 use Rattle.sparse.specs.Vectors.{vector}
 use Rattle.sparse.proofs.Checks.{sizes-most}
 use Rattle.sparse.proofs.Walk.{passed, standing}
-use Rattle.merges.proofs.Made.{Merging, merging-start, lengths, merging-more, merging-end}
+use Rattle.merges.proofs.Made.{Merging, merging-start, merging-more, lengths, fits, merging-fills}
 use Rattle.merges.proofs.merge.Statement.{statement}
 use Rattle.merges.proofs.merge.Tie as tie
 
 abbrev Inv-loop : tie.InvT-loop
 Inv-loop op dims ia va ib vb oi₀ ov₀ p₀ q₀ n₀ turns₀ oi ov p q n turns =
-    Merging op (vector dims ia va) (vector dims ib vb) oi₀ ov₀ oi ov p q n turns
+    Merging op 0 (vector dims ia va) (vector dims ib vb) oi₀ ov₀ oi ov p q n turns
 
 abbrev μ-loop : tie.MeasureT-loop
 μ-loop op dims ia va ib vb oi₀ ov₀ p₀ q₀ n₀ turns₀ oi ov p q n turns = length ia + length ib - (p + q)
@@ -46,9 +46,9 @@ join-cells-requires c κs = search needs
 put-requires : tie.Need-put-requires Inv-loop μ-loop
 put-requires c κs =
     let l = c .before .before .before .before .before in
-    let m = l .loop .inv in
-    let e = lengths (start l .pre) m in
-    (omega (arith, m .few, e .0), omega (arith, m .few, e .1))
+    let e = lengths (start l .pre) (l .loop .inv) in
+    let room = fits (start l .pre) (l .loop .inv) (omega arith) in
+    (omega (arith, room .0, e .0), omega (arith, room .1, e .1))
 
 add-turns : tie.Need-add-turns Inv-loop μ-loop
 add-turns c =
@@ -64,7 +64,9 @@ loop-again c =
     let s = c .before .before .before .before in
     let t = turn c in
     let l = t .before .before in
-    merging-more (start l .pre) (l .loop .inv) refl (omega arith) (t .one-turn .ensures) (s .before .before .before .join-cells .ensures)
+    let r = start l .pre in
+    let room = fits r (l .loop .inv) (omega arith) in
+    merging-more (r .left) (r .right) (l .loop .inv) refl (t .one-turn .ensures) (room .0) (room .1) (s .before .before .before .join-cells .ensures)
     (s .put .ensures)
 
 same-length : tie.Need-same-length Inv-loop μ-loop
@@ -74,7 +76,7 @@ same-length-2 : tie.Need-same-length-2 Inv-loop μ-loop
 same-length-2 c = lengths (start (c .before) .pre) (c .before .loop .inv) .1
 
 returns : tie.Need-returns Inv-loop μ-loop
-returns c = merging-end (start (c .before) .pre) (c .before .loop .inv) (omega arith)
+returns c = merging-fills (start (c .before) .pre) (c .before .loop .inv) (omega arith)
 
 pub merge-spec : {M : Type 1} → statement M
 merge-spec =

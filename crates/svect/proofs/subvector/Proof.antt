@@ -13,7 +13,7 @@ use Rattle.sparse.specs.Walk.{Sound}
 use Rattle.sparse.proofs.Checks.{sound}
 use Rattle.svect.specs.Calls.{slice}
 use Rattle.svect.proofs.Cuts.{fits, movable, slice-size, slice-written}
-use Rattle.svect.proofs.Writes.{refused}
+use Rattle.sparse.proofs.Writes.{refused}
 use Rattle.svect.proofs.subvector.Statement.{statement}
 use Rattle.svect.proofs.subvector.Tie as tie
 
