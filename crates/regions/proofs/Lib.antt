@@ -1,0 +1,1 @@
+-- Laws of regions and capacities.

@@ -1,0 +1,55 @@
+// Regions of a lent pair of lists, in which the states of an aggregate live: how large one has to be,
+// whether it lies inside its lists, and how a vector is copied to its front.
+
+ghost use mathlib.Core.Path.{_≡_};
+ghost use Prim.Native.Nat.{_+_};
+ghost use lib.Dec.{leb};
+ghost use Rattle.regions.specs.Capacity.{capacityFor};
+ghost use Rattle.regions.specs.Regions.{within};
+ghost use Rattle.regions.specs.Loops.{Fitting, Copied};
+
+// The capacity for n entries in a vector of `dims` places: the leading zeros of n - 1 give the power of
+// two. From n = dims on it is dims.
+pub fn capacity(dims: u32, n: usize) -> usize
+    ensures { λ r. ⌜ r ≡ capacityFor dims n ⌝ }
+{
+    let most = dims as usize;
+    if most <= n {
+        return most;
+    }
+    if n <= 16 {
+        return sparse::smaller(16, most);
+    }
+    let power = 1usize << (64 - u64::leading_zeros((n - 1) as u64));
+    sparse::smaller(power, most)
+}
+
+// Whether n places from `start` on lie inside a list. Start and n together may pass the largest usize.
+fn reaches(start: usize, n: usize, len: usize) -> bool
+    ensures { λ r. ⌜ r ≡ leb (start + n) len ⌝ }
+{
+    if len < start {
+        return false;
+    }
+    n <= len - start
+}
+
+// Whether they lie inside both of two lists of so many indexes and values.
+pub fn lies_inside(start: usize, n: usize, indexes: usize, values: usize) -> bool
+    ensures { λ r. ⌜ r ≡ within start n indexes values ⌝ }
+{
+    reaches(start, n, indexes) && reaches(start, n, values)
+}
+
+// Copies the entries of a vector to the front of two lists. For the crates above, not for users.
+pub fn copy(indexes: &[u32], values: &[f32], oi: &mut [u32], ov: &mut [f32])
+    requires { ⌜ Fitting (now indexes) (now values) (now oi) (now ov) ⌝ }
+    ensures { λ r. ⌜ Copied (now (indexes .entry)) (now (values .entry)) (now (oi .entry)) (now (ov .entry)) (now (oi .exit)) (now (ov .exit)) ⌝ }
+{
+    let mut j: usize = 0;
+    while j < indexes.len() {
+        oi[j] = indexes[j];
+        ov[j] = values[j];
+        j += 1;
+    }
+}
