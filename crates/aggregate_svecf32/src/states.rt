@@ -57,8 +57,11 @@ fn is_begun_fairly(h: Header, ai: &[u32], av: &[f32]) -> bool
         return false;
     }
     let end = h.start + h.len;
-    if let Checked::Refused(number, place) = sparse::check(h.dims, &ai[h.start..end], &av[h.start..end])
-    {
+    if let Checked::Refused(number, place) = sparse::check(
+        h.dims,
+        &ai[h.start..end],
+        &av[h.start..end],
+    ) {
         return false;
     }
     true
@@ -69,5 +72,9 @@ pub fn is_consistent(h: Header, ai: &[u32], av: &[f32]) -> bool
     requires { ⌜ inside (h .start) (h .length) (pair (now ai) (now av)) ≡ true ⌝ }
     ensures { λ r. ⌜ r ≡ consistent h (pair (now (ai .entry)) (now (av .entry))) ⌝ }
 {
-    if h.begun { is_begun_fairly(h, ai, av) } else { is_all_zero(h) }
+    if h.begun {
+        is_begun_fairly(h, ai, av)
+    } else {
+        is_all_zero(h)
+    }
 }
