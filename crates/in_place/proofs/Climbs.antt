@@ -23,9 +23,10 @@ use Rattle.merges.specs.Algebra.{added, joins}
 use Rattle.merges.specs.declared.Op.the-variants.{Add}
 use Rattle.merges.proofs.Made.{joinAt, Made, Merging, merging-more, merging-end}
 use Rattle.regions.specs.Regions.{part, Stands}
+use Rattle.regions.proofs.Stands.{past-front, stands-front}
 use Rattle.in_place.specs.Turns.{firstIndex, rowTurns}
 use Rattle.in_place.specs.Loops.{around, Roomy, Raised, Grown}
-use Rattle.in_place.proofs.Rest.{turned-left, around-from, past-front}
+use Rattle.in_place.proofs.Rest.{turned-left, around-from}
 use Rattle.in_place.proofs.First.{first-most, first-split, written-before, turns-from}
 
 -- rising indexes from p on that are not below f and are below d: at most d - f of them
@@ -50,18 +51,6 @@ ended v s {p} cut h = ⊎-elim (λ l. l) (λ l. absurd (omega (arith, cut .high 
 
 taken-within : (is : List ℕ) (vs : List Float) (p : ℕ) {k p′ : ℕ} {x : Cell} → Taken is vs p k x p′ → p ≤ length is → p′ ≤ length is
 taken-within is vs p t h = ⊎-elim (λ e. omega (arith, e .0, e .3)) (λ e. omega (arith, e .2)) t
-
--- xs stands in front of what is left of a list, and within the room
-stands-front {ℓ} : {A : Type ℓ} (xs old new : List A) (n room : ℕ) → new ≡ xs ++ drop n old → length xs ≡ n → n ≤ room → room ≤ length old
-    → Stands 0 room xs old new
-stands-front xs old new n room e count fits long =
-    rw e
-    (record {
-      long = simp (length-append, length-drop) (omega arith);
-      before = refl;
-      here = take-append-seam xs (drop n old);
-      after = let z : 0 + room ≡ room = omega arith in rw z (past-front xs old n room count fits);
-    })
 
 -- the union places below the row's first index
 abbrev pub below : Vector → Vector → ℕ
