@@ -162,7 +162,10 @@ impl Header {
             &mut ci[start..new_end],
             &mut cv[start..new_end],
         );
-        Told::Done(states::begun(start, length, self.dims, self.len, capacity, self.count), 0)
+        Told::Done(
+            states::begun(start, length, self.dims, self.len, capacity, self.count),
+            0,
+        )
     }
 
     // Writes the sum of the rows to the front of `oi` and `ov`, and answers its dims and entries. The

@@ -71,7 +71,11 @@ fn merge(
         return Told::Refused(h, refusal::COUNT, 0);
     }
     if !has_room(h, bi.len()) {
-        return Told::Refused(h, refusal::NEED, regions::capacity(h.dims, h.len + bi.len()));
+        return Told::Refused(
+            h,
+            refusal::NEED,
+            regions::capacity(h.dims, h.len + bi.len()),
+        );
     }
     let end = h.start + h.length;
     let m = in_place::merge_in_place(
