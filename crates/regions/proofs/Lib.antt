@@ -1,1 +1,2 @@
 -- Laws of regions and capacities.
+pub mod Capacities
