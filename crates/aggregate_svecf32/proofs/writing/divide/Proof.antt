@@ -5,7 +5,8 @@ use native.Mathlib.Omega.{arith}
 use lib.ListN.{length}
 use borrow.Author.Needs.{needs}
 use Rattle.sparse.specs.Vectors.{vector}
-use Rattle.aggregate_svecf32.proofs.Shares.{count-float, Dividing, dividing-start, dividing-lengths, dividing-fits, dividing-more, dividing-done}
+use Rattle.aggregate_svecf32.proofs.Shares.{count-float, Dividing, dividing-start, dividing-lengths}
+use Rattle.aggregate_svecf32.proofs.Shares.{dividing-fits, dividing-more, dividing-done}
 use Rattle.aggregate_svecf32.proofs.writing.divide.Statement.{statement}
 use Rattle.aggregate_svecf32.proofs.writing.divide.Tie as tie
 
