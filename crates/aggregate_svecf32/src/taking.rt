@@ -41,8 +41,9 @@ fn begin(
     if h.length < capacity {
         return Told::Refused(h, refusal::ROOM, capacity);
     }
-    let end = h.start + h.length;
-    regions::copy(bi, bv, &mut ai[h.start..end], &mut av[h.start..end]);
+    let from = h.start;
+    let end = from + h.length;
+    regions::copy(bi, bv, &mut ai[from..end], &mut av[from..end]);
     Told::Done(
         states::begun(h.start, h.length, dims, bi.len(), capacity, count),
         bi.len(),
@@ -77,11 +78,12 @@ fn merge(
             regions::capacity(h.dims, h.len + bi.len()),
         );
     }
-    let end = h.start + h.length;
+    let from = h.start;
+    let end = from + h.length;
     let m = in_place::merge_in_place(
         dims,
-        &mut ai[h.start..end],
-        &mut av[h.start..end],
+        &mut ai[from..end],
+        &mut av[from..end],
         h.len,
         h.capacity,
         bi,
