@@ -1,1 +1,2 @@
 -- Laws of aggregate states.
+pub mod Consistent
