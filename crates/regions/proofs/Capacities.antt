@@ -113,8 +113,8 @@ same-cap : (d n : ℕ) → capacityFor d (capacityFor d n) ≡ capacityFor d n
 unfolding capacityFor
 same-cap d n =
     ⊎-elim
-    (λ l. let e : min (2 ^ exponent n) d ≡ d = omega arith in rw e (omega (arith, exponent-enough d)))
-    (λ l. let e : min (2 ^ exponent n) d ≡ 2 ^ exponent n = omega arith in rw e (rw (again (exponent n) (exponent-from n)) e))
+    (λ (l : d ≤ 2 ^ exponent n). let e : min (2 ^ exponent n) d ≡ d = omega arith in rw e (omega (arith, exponent-enough d)))
+    (λ (l : 2 ^ exponent n < d). let e : min (2 ^ exponent n) d ≡ 2 ^ exponent n = omega arith in rw e (rw (again (exponent n) (exponent-from n)) e))
     (le-or-lt d (2 ^ exponent n))
 
 pub cap-self : (d n : ℕ) → isCapacity d (capacityFor d n) ≡ true
