@@ -1,3 +1,4 @@
 -- Laws of aggregate states.
 pub mod Consistent
 pub mod Shares
+pub mod Acting
