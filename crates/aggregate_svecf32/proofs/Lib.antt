@@ -4,3 +4,4 @@ pub mod Held
 pub mod Shares
 pub mod Acting
 pub mod Finishing
+pub mod Moved
