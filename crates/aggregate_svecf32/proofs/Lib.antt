@@ -5,3 +5,4 @@ pub mod Shares
 pub mod Acting
 pub mod Finishing
 pub mod Moved
+pub mod Begun
