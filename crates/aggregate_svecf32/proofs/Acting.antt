@@ -2,7 +2,7 @@
 -- outcomes that a call may have are equal, but in the open places of the lists. Assumes nothing.
 use Prim.Native.Nat.{ℕ, _+_, _≤_}
 use native.Mathlib.Omega.{arith}
-use mathlib.Core.List.{List, [], _∷_}
+use mathlib.Core.List.{List, [], _∷_, _++_}
 use mathlib.Core.Path.{_≡_, refl, sym, ap, ap₂, _∙_}
 use lib.ListN.{length, take, drop}
 use lib.Ieee.{Float}
@@ -66,20 +66,23 @@ hosts-fitting {p} {start} {k} s =
       room′ = rw (part-length start k (p .values) (s .values)) (s .short);
     }
 
+-- what is copied to the front of a part that was lent stands in the whole list
+copied-lent {ℓ} : {A : Type ℓ} {start k n : ℕ} {xs l ys : List A} → start + k ≤ length l → n ≡ length xs → n ≤ k
+    → ys ≡ xs ++ drop (length xs) (part start k l) → Stands start n xs l (lent start k l ys)
+copied-lent {start = start} {k} {xs = xs} {l} fits e h c =
+    rw e (stands-lent fits (omega arith) (omega arith) (stands-copied c (omega (arith, part-length start k l fits))))
+
 -- the part of the lists was lent, and the vector copied to its front
 pub acts-copied : {h : Header} {due : Checked} (d : Deed) {p : Pair} {k : ℕ} {yi : List ℕ} {yv : List Float}
     → let start = d .header .start in
     due ≡ Valid → d .room ≡ size (d .vector) → Hosts p start k (d .vector)
     → Copied (d .vector .indexes) (d .vector .values) (part start k (p .indexes)) (part start k (p .values)) yi yv
     → Acts h due d p (Done (d .header) (d .turns)) (pair (lent start k (p .indexes) yi) (lent start k (p .values) yv))
-acts-copied d {p} {k} {yv = yv} e filled s c =
-    let f = hosts-fitting s in
-    let even = s .even in
-    let v : Stands 0 (size (d .vector)) (d .vector .values) (part (d .header .start) k (p .values)) yv =
-    rw even (stands-copied (c .values) (omega (arith, f .room′))) in
+acts-copied d e filled s c =
+    let short = s .short in
     acts-done d e
-    (rw filled (stands-lent (s .indexes) (s .short) (omega arith) (stands-copied (c .indexes) (f .room))))
-    (rw filled (stands-lent (s .values) (s .short) (omega arith) v))
+    (copied-lent (s .indexes) filled (omega arith) (c .indexes))
+    (copied-lent (s .values) (filled ∙ s .even) (omega arith) (c .values))
 
 -- ---- what two outcomes have in common
 
@@ -88,35 +91,46 @@ pub record Agree {ℓ} {A : Type ℓ} (low high : ℕ) (a b : List A) : Type ℓ
   pub before : take low a ≡ take low b
   pub after : drop high a ≡ drop high b
 
+agree {ℓ} : {A : Type ℓ} {start room : ℕ} {xs old a b : List A} → Stands start room xs old a → Stands start room xs old b
+    → Agree (start + length xs) (start + room) a b
+agree f g = let s = stands-one f g in record { before = s .0; after = s .1 }
+
+-- after a refusal the lists are equal, and else all but the open places: those within the room that the vector does not fill
+abbrev pub Alike : Checked → Deed → Pair → Pair → Type 0
+Alike Valid d a b =
+    let low = d .header .start in
+    Agree (low + size (d .vector)) (low + d .room) (a .indexes) (b .indexes)
+    × Agree (low + length (d .vector .values)) (low + d .room) (a .values) (b .values)
+Alike (Refused n c) d a b = a ≡ b
+
+-- the vector fills the room
+abbrev pub Filled : Deed → Type 0
+Filled d = (size (d .vector) ≡ d .room) × (length (d .vector .values) ≡ d .room)
+
+-- what is left of both lists
+abbrev BothLeft : Checked → Deed → Pair → Pair → Type 0
+BothLeft due d p q =
+    Left due (d .header .start) (d .room) (d .vector .indexes) (p .indexes) (q .indexes)
+    × Left due (d .header .start) (d .room) (d .vector .values) (p .values) (q .values)
+
+alike : (due : Checked) (d : Deed) (p a b : Pair) → BothLeft due d p a → BothLeft due d p b → Alike due d a b
+alike Valid d p a b f g = (agree (f .0) (g .0), agree (f .1) (g .1))
+alike (Refused n c) d p a b f g = ap₂ pair (f .0 ∙ sym (g .0)) (f .1 ∙ sym (g .1))
+
+same : (due : Checked) (d : Deed) (p a b : Pair) → (due ≡ Valid → Filled d) → BothLeft due d p a → BothLeft due d p b → a ≡ b
+same (Refused n c) d p a b fills f g = alike (Refused n c) d p a b f g
+same Valid d p a b fills f g =
+    let e = fills refl in
+    let i = rw (← e .0) at (f .0) in
+    let j = rw (← e .0) at (g .0) in
+    let v = rw (← e .1) at (f .1) in
+    let w = rw (← e .1) at (g .1) in
+    ap₂ pair (stands-same i j) (stands-same v w)
+
 module _ {h : Header} {due : Checked} {d : Deed} {p : Pair} {r s : Told} {a b : Pair} (f : Acts h due d p r a) (g : Acts h due d p s b) where
-  pub one-told : r ≡ s
-  one-told = one-answer (f .answer) (g .answer)
-
-  pub one-refused : {n c : ℕ} → due ≡ Refused n c → a ≡ b
-  one-refused e =
-      let i = rw e at (f .indexes) in
-      let j = rw e at (g .indexes) in
-      let v = rw e at (f .values) in
-      let w = rw e at (g .values) in
-      ap₂ pair (i ∙ sym j) (v ∙ sym w)
-
-  pub one-done : due ≡ Valid → let low = d .header .start in let high = low + d .room in
-      Agree (low + size (d .vector)) high (a .indexes) (b .indexes)
-      × Agree (low + length (d .vector .values)) high (a .values) (b .values)
-  one-done e =
-      let i = stands-one (rw e at (f .indexes)) (rw e at (g .indexes)) in
-      let v = stands-one (rw e at (f .values)) (rw e at (g .values)) in
-      (record { before = i .0; after = i .1 }, record { before = v .0; after = v .1 })
+  pub one-acts : (r ≡ s) × Alike due d a b
+  one-acts = (one-answer (f .answer) (g .answer), alike due d p a b (f .indexes, f .values) (g .indexes, g .values))
 
   -- where the vector fills the room nothing is open
-  pub one-filled : size (d .vector) ≡ d .room → length (d .vector .values) ≡ d .room → a ≡ b
-  one-filled is vs = go due refl
-    where
-      go : (c : Checked) → due ≡ c → a ≡ b
-      go (Refused n c) e = one-refused e
-      go Valid e =
-          let i = rw (e, ← is) at (f .indexes) in
-          let j = rw (e, ← is) at (g .indexes) in
-          let v = rw (e, ← vs) at (f .values) in
-          let w = rw (e, ← vs) at (g .values) in
-          ap₂ pair (stands-same i j) (stands-same v w)
+  pub one-filled : (due ≡ Valid → Filled d) → (r ≡ s) × (a ≡ b)
+  one-filled fills = (one-answer (f .answer) (g .answer), same due d p a b fills (f .indexes, f .values) (g .indexes, g .values))

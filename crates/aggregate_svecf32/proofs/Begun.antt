@@ -5,7 +5,7 @@ use mathlib.Core.List.{List}
 use mathlib.Core.Path.{_≡_, refl}
 use lib.Ieee.{Float}
 use borrow.Author.Tests.{lt-ltb, le-ltb}
-use Rattle.refusal.specs.declared.Checked.the-variants.{Valid, Refused}
+use Rattle.refusal.specs.declared.Checked.the-variants.{Refused}
 use Rattle.sparse.specs.Vectors.{Vector, size}
 use Rattle.sparse.proofs.Checks.{size-most}
 use Rattle.regions.specs.Capacity.{capacityFor}

@@ -12,7 +12,7 @@ use Rattle.refusal.specs.Answers.{refuse}
 use Rattle.refusal.specs.declared.Checked.the-variants.{Valid}
 use Rattle.refusal.specs.declared.Written.the-variants.{Done}
 use Rattle.refusal.proofs.Chains.{next-valid, refuse-valid}
-use Rattle.sparse.specs.Calls.{roomOf, Leaves}
+use Rattle.sparse.specs.Calls.{roomOf}
 use Rattle.sparse.specs.Vectors.{Vector}
 use Rattle.sparse.proofs.Writes.{room-passed, done}
 use Rattle.regions.specs.Loops.{Fitting, Copied}

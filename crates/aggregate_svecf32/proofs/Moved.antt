@@ -21,10 +21,11 @@ use Rattle.regions.proofs.Stands.{lent, inside-both}
 use Rattle.aggregate_svecf32.specs.States.{held, stateOf}
 use Rattle.aggregate_svecf32.specs.Calls.{spare, moveOf, moved, Moves}
 use Rattle.aggregate_svecf32.specs.declared.Header.{Header}
+use Rattle.aggregate_svecf32.specs.declared.Told.{Told}
 use Rattle.aggregate_svecf32.specs.declared.Told.the-variants.{Done}
 use Rattle.aggregate_svecf32.proofs.Consistent.{Sure, state-sure}
 use Rattle.aggregate_svecf32.proofs.Held.{cut}
-use Rattle.aggregate_svecf32.proofs.Acting.{Hosts, hosts-fitting, acts-copied}
+use Rattle.aggregate_svecf32.proofs.Acting.{Hosts, hosts-fitting, acts-copied, one-filled}
 
 -- no more entries than places
 pub sure-few : {h : Header} {p : Pair} → Sure h p → (h .len ≤ h .dims) × (h .dims ≤ 1048575)
@@ -80,3 +81,7 @@ module _ (h : Header) (p : Pair) (n : ℕ) (q : Pair) (start long : ℕ) where
     move-done due {yi} {yv} c =
         acts-copied (moved h p n start long) due (sym (m .sure .many)) hosts
         (rw (add-sub-cancel-left (h .start) (h .len)) at c)
+
+  -- two outcomes that a move may have are equal
+  pub one-move : {r s : Told} {a b : Pair} → Moves h p n q start long r a → Moves h p n q start long s b → (r ≡ s) × (a ≡ b)
+  one-move f g = one-filled f g (λ e. let s = moving e .sure in (s .many, s .many′))

@@ -1,5 +1,4 @@
 -- `moving::ready` meets its contract: its tests are those of the definition, in their order. Assumes nothing.
-use native.Mathlib.Omega.{arith}
 use mathlib.Core.Bool.{true, false}
 use mathlib.Core.Path.{_≡_, sym, ap, _∙_}
 use lib.Dec.{ltb}

@@ -1,8 +1,6 @@
 -- `taking::begin` meets its contract: where the region is long enough the vector is copied to it, and the header says so. Assumes nothing.
 use Prim.Native.Nat.{_≤_}
-use mathlib.Core.Path.{_≡_, ap, _∙_}
 use borrow.Author.Needs.{needs}
-use Rattle.refusal.specs.declared.Checked.the-variants.{Refused}
 use Rattle.sparse.specs.Vectors.{Vector, vector, size}
 use Rattle.regions.specs.Capacity.{capacityFor}
 use Rattle.regions.specs.Regions.{Pair, pair}

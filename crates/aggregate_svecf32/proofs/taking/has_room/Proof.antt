@@ -1,5 +1,4 @@
 -- `taking::has_room` meets its contract: its tests are those of the definition. Assumes nothing.
-use mathlib.Core.Path.{_≡_, sym}
 use borrow.Author.Needs.{needs}
 use borrow.Author.Tests.{eq-eqb, ne-eqb}
 use Rattle.aggregate_svecf32.proofs.taking.has_room.Statement.{statement}
