@@ -1,2 +1,3 @@
 -- Laws of aggregate states.
 pub mod Consistent
+pub mod Shares

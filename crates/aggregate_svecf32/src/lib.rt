@@ -108,14 +108,15 @@ impl Header {
         if !other.begun {
             return Told::Done(self, 0);
         }
-        let end = other.start + other.len;
+        let from = other.start;
+        let end = from + other.len;
         taking::take(
             self,
             ai,
             av,
             other.dims,
-            &bi[other.start..end],
-            &bv[other.start..end],
+            &bi[from..end],
+            &bv[from..end],
             other.count,
         )
     }
@@ -154,15 +155,19 @@ impl Header {
         if length < capacity {
             return Told::Refused(self, refusal::ROOM, capacity);
         }
-        let end = self.start + self.len;
+        let from = self.start;
+        let end = from + self.len;
         let new_end = start + length;
         regions::copy(
-            &ai[self.start..end],
-            &av[self.start..end],
+            &ai[from..end],
+            &av[from..end],
             &mut ci[start..new_end],
             &mut cv[start..new_end],
         );
-        Told::Done(states::begun(start, length, self.dims, self.len, capacity, self.count), 0)
+        Told::Done(
+            states::begun(start, length, self.dims, self.len, capacity, self.count),
+            0,
+        )
     }
 
     // Writes the sum of the rows to the front of `oi` and `ov`, and answers its dims and entries. The
@@ -173,8 +178,9 @@ impl Header {
         if let Checked::Refused(number, place) = writing::ready(self, ai, av, oi.len(), ov.len()) {
             return Written::Refused(number, place);
         }
-        let end = self.start + self.len;
-        regions::copy(&ai[self.start..end], &av[self.start..end], oi, ov);
+        let from = self.start;
+        let end = from + self.len;
+        regions::copy(&ai[from..end], &av[from..end], oi, ov);
         Written::Done(self.dims, self.len)
     }
 
@@ -185,11 +191,12 @@ impl Header {
         if let Checked::Refused(number, place) = writing::ready(self, ai, av, oi.len(), ov.len()) {
             return Written::Refused(number, place);
         }
-        let end = self.start + self.len;
+        let from = self.start;
+        let end = from + self.len;
         let n = writing::divide(
             self.dims,
-            &ai[self.start..end],
-            &av[self.start..end],
+            &ai[from..end],
+            &av[from..end],
             self.count,
             oi,
             ov,

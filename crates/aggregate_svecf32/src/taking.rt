@@ -41,8 +41,9 @@ fn begin(
     if h.length < capacity {
         return Told::Refused(h, refusal::ROOM, capacity);
     }
-    let end = h.start + h.length;
-    regions::copy(bi, bv, &mut ai[h.start..end], &mut av[h.start..end]);
+    let from = h.start;
+    let end = from + h.length;
+    regions::copy(bi, bv, &mut ai[from..end], &mut av[from..end]);
     Told::Done(
         states::begun(h.start, h.length, dims, bi.len(), capacity, count),
         bi.len(),
@@ -71,13 +72,18 @@ fn merge(
         return Told::Refused(h, refusal::COUNT, 0);
     }
     if !has_room(h, bi.len()) {
-        return Told::Refused(h, refusal::NEED, regions::capacity(h.dims, h.len + bi.len()));
+        return Told::Refused(
+            h,
+            refusal::NEED,
+            regions::capacity(h.dims, h.len + bi.len()),
+        );
     }
-    let end = h.start + h.length;
+    let from = h.start;
+    let end = from + h.length;
     let m = in_place::merge_in_place(
         dims,
-        &mut ai[h.start..end],
-        &mut av[h.start..end],
+        &mut ai[from..end],
+        &mut av[from..end],
         h.len,
         h.capacity,
         bi,
