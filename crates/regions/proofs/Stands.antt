@@ -35,14 +35,29 @@ module _ {ℓ} {A : Type ℓ} where
   pub all-same : (n : ℕ) (a b : List A) → take n a ≡ take n b → drop n a ≡ drop n b → a ≡ b
   all-same n a b e f = sym (take-append-drop n a) ∙ ap₂ _++_ e f ∙ take-append-drop n b
 
-  -- a copy to the front
-  pub stands-copied : {xs old new : List A} → new ≡ xs ++ drop (length xs) old → length xs ≤ length old → Stands 0 (length xs) xs old new
-  stands-copied {xs} {old} e h = rw e (record {
+  -- what is written in front does not reach what comes after
+  pub past-front : (xs old : List A) (n at : ℕ) → length xs ≡ n → n ≤ at → drop at (xs ++ drop n old) ≡ drop at old
+  past-front xs old n at e h =
+      let s : at ≡ length xs + (at - n) = omega arith in
+      let d : n + (at - n) ≡ at = omega arith in
+      ap (λ (i : ℕ). drop i (xs ++ drop n old)) s
+      ∙ drop-append-add xs (drop n old) (at - n)
+      ∙ drop-drop (at - n) n old
+      ∙ ap (λ (i : ℕ). drop i old) d
+
+  -- it stands there, within any room for it
+  pub stands-front : (xs old new : List A) (n room : ℕ) → new ≡ xs ++ drop n old → length xs ≡ n → n ≤ room → room ≤ length old
+      → Stands 0 room xs old new
+  stands-front xs old new n room e count fits long = rw e (record {
     long = simp (length-append, length-drop) (omega arith);
     before = refl;
-    here = take-at xs (drop (length xs) old) (length xs) refl;
-    after = rw zero-add (drop-at xs (drop (length xs) old) (length xs) refl);
+    here = take-at xs (drop n old) (length xs) refl;
+    after = rw zero-add (past-front xs old n room count fits);
   })
+
+  -- a copy to the front
+  pub stands-copied : {xs old new : List A} → new ≡ xs ++ drop (length xs) old → length xs ≤ length old → Stands 0 (length xs) xs old new
+  stands-copied {xs} {old} {new} e h = stands-front xs old new (length xs) (length xs) e refl (omega arith) h
 
   -- what stands at the front of a part that was lent stands in the whole list
   pub stands-lent : {start k room : ℕ} {xs l ys : List A} → start + k ≤ length l → room ≤ k → length xs ≤ room
