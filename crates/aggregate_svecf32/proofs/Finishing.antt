@@ -26,12 +26,12 @@ use Rattle.aggregate_svecf32.proofs.Held.{cut}
 use Rattle.aggregate_svecf32.proofs.Shares.{shared-many}
 
 -- a state that has begun, and room for its entries in two lists of so many indexes and values
-pub record Finishes (h : Header) (p : Pair) (indexes values : ℕ) : Type 0 where
-  pub sure : Sure h p
-  pub room : h .len ≤ indexes
-  pub room′ : h .len ≤ values
+record Finishes (h : Header) (p : Pair) (indexes values : ℕ) : Type 0 where
+  sure : Sure h p
+  room : h .len ≤ indexes
+  room′ : h .len ≤ values
 
-pub finishes : (h : Header) (p : Pair) (i v : ℕ) → finishOf h p i v ≡ Valid → Finishes h p i v
+finishes : (h : Header) (p : Pair) (i v : ℕ) → finishOf h p i v ≡ Valid → Finishes h p i v
 unfolding finishOf
 finishes h p i v e =
     let a = next-valid (stateOf h p) (refuse (not (h .begun)) NOT_BEGUN 0 (roomOf (h .len) i v)) e in
@@ -39,24 +39,29 @@ finishes h p i v e =
     let r = room-passed (h .len) i v (b .1) in
     record { sure = state-sure h p (a .0) (not-false (h .begun) (b .0)); room = r .0; room′ = r .1 }
 
-module _ (h : Header) (p : Pair) {oi : List ℕ} {ov : List Float} where
-  module _ (f : Finishes h p (length oi) (length ov)) where
-    pub sum-fits : Fitting (cut h p .indexes) (cut h p .values) oi ov
-    sum-fits =
-        let s = f .sure in
-        rw (add-sub-cancel-left (h .start) (h .len))
-        (record { even = s .many ∙ sym (s .many′); room = rw (s .many) (f .room); room′ = rw (s .many) (f .room′) })
+module _ (h : Header) (p : Pair) (oi : List ℕ) (ov : List Float) (due : finishOf h p (length oi) (length ov) ≡ Valid) where
+  known : Finishes h p (length oi) (length ov)
+  known = finishes h p (length oi) (length ov) due
 
-    pub average-fits : Divides (cut h p) (h .count) oi ov
-    average-fits =
-        let s = f .sure in
-        rw (held-cut h p)
-        (record { sound = s .fair .sound; most = s .fair .most; room = rw (s .many) (f .room); room′ = rw (s .many) (f .room′) })
+  pub finish-sure : Sure h p
+  finish-sure = known .sure
 
-  module _ (due : finishOf h p (length oi) (length ov) ≡ Valid) {oi′ : List ℕ} {ov′ : List Float} where
+  pub sum-fits : Fitting (cut h p .indexes) (cut h p .values) oi ov
+  sum-fits =
+      let s = known .sure in
+      rw (add-sub-cancel-left (h .start) (h .len))
+      (record { even = s .many ∙ sym (s .many′); room = rw (s .many) (known .room); room′ = rw (s .many) (known .room′) })
+
+  pub average-fits : Divides (cut h p) (h .count) oi ov
+  average-fits =
+      let s = known .sure in
+      rw (held-cut h p)
+      (record { sound = s .fair .sound; most = s .fair .most; room = rw (s .many) (known .room); room′ = rw (s .many) (known .room′) })
+
+  module _ {oi′ : List ℕ} {ov′ : List Float} where
     pub sum-done : Copied (cut h p .indexes) (cut h p .values) oi ov oi′ ov′ → Sums h p oi ov (Done (h .dims) (h .len)) oi′ ov′
     sum-done c =
-        let s = finishes h p (length oi) (length ov) due .sure in
+        let s = known .sure in
         let d : Copied (held h p .indexes) (held h p .values) oi ov oi′ ov′ = rw (add-sub-cancel-left (h .start) (h .len)) at c in
         done (held h p) due (sym (s .many)) (s .many′ ∙ sym (s .many)) (rw (s .many) at (d .indexes)) (rw (s .many′) at (d .values))
 

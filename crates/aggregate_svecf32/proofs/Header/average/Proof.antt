@@ -8,7 +8,7 @@ use Rattle.sparse.proofs.Writes.{refused}
 use Rattle.regions.specs.Regions.{Pair, pair}
 use Rattle.aggregate_svecf32.specs.Calls.{finishOf}
 use Rattle.aggregate_svecf32.proofs.Held.{ends-inside}
-use Rattle.aggregate_svecf32.proofs.Finishing.{Finishes, finishes, average-fits, average-done}
+use Rattle.aggregate_svecf32.proofs.Finishing.{finish-sure, average-fits, average-done}
 use Rattle.aggregate_svecf32.proofs.Header.average.Statement.{statement}
 use Rattle.aggregate_svecf32.proofs.Header.average.Tie as tie
 
@@ -23,14 +23,12 @@ due : (c : tie.After-enum-told) → let s = start c in
     finishOf (s .args .self) (lists s) (length (s .args .oi .now)) (length (s .args .ov .now)) ≡ Valid
 due c = sym (c .before .before .ready .ensures .answer) ∙ c .enum-told .given .1
 
-known : (c : tie.After-enum-told) → let s = start c in
-    Finishes (s .args .self) (lists s) (length (s .args .oi .now)) (length (s .args .ov .now))
-known c = let s = start c in finishes (s .args .self) (lists s) (length (s .args .oi .now)) (length (s .args .ov .now)) (due c)
-
--- the state's end lies inside both lists
+-- and so the state's end lies inside both lists
 inner : (c : tie.After-enum-told) → let a = start c .args in
     (a .self .start + a .self .len ≤ length (a .ai .now)) × (a .self .start + a .self .len ≤ length (a .av .now))
-inner c = ends-inside (known c .sure)
+inner c =
+    let s = start c in
+    ends-inside (finish-sure (s .args .self) (lists s) (s .args .oi .now) (s .args .ov .now) (due c))
 
 ready-requires : tie.Need-ready-requires
 ready-requires c κs = search needs
@@ -74,7 +72,8 @@ part-divide-end-2 c = let i = inner (c .before .before) in search needs
 divide-requires : tie.Need-divide-requires
 divide-requires c κs =
     let t = c .before .before .before .before .before in
-    average-fits (start t .args .self) (lists (start t)) (known t)
+    let a = start t .args in
+    average-fits (a .self) (lists (start t)) (a .oi .now) (a .ov .now) (due t)
 
 same-length : tie.Need-same-length
 same-length c = search needs
@@ -86,7 +85,8 @@ returns-2 : tie.Need-returns-2
 returns-2 c =
     let f = c .before .before .before .before in
     let t = f .before .before .before .before .before .before in
-    average-done (start t .args .self) (lists (start t)) (due t) (f .divide .ensures)
+    let a = start t .args in
+    average-done (a .self) (lists (start t)) (a .oi .now) (a .ov .now) (due t) (f .divide .ensures)
 
 pub average-spec : {M : Type 1} → statement M
 average-spec =
