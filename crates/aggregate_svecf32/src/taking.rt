@@ -41,9 +41,9 @@ fn begin(
     if h.length < capacity {
         return Told::Refused(h, refusal::ROOM, capacity);
     }
-    let from = h.start;
-    let end = from + h.length;
-    regions::copy(bi, bv, &mut ai[from..end], &mut av[from..end]);
+    let start = h.start;
+    let end = start + h.length;
+    regions::copy(bi, bv, &mut ai[start..end], &mut av[start..end]);
     Told::Done(
         states::begun(h.start, h.length, dims, bi.len(), capacity, count),
         bi.len(),
@@ -78,12 +78,12 @@ fn merge(
             regions::capacity(h.dims, h.len + bi.len()),
         );
     }
-    let from = h.start;
-    let end = from + h.length;
+    let start = h.start;
+    let end = start + h.length;
     let m = in_place::merge_in_place(
         dims,
-        &mut ai[from..end],
-        &mut av[from..end],
+        &mut ai[start..end],
+        &mut av[start..end],
         h.len,
         h.capacity,
         bi,
