@@ -1,1 +1,8 @@
 -- Laws of aggregate states.
+pub mod Consistent
+pub mod Held
+pub mod Shares
+pub mod Acting
+pub mod Finishing
+pub mod Moved
+pub mod Begun

@@ -1,6 +1,6 @@
 -- Document 01, "Aggregate states": the tests of each call in their order, what it is to do where they find nothing, and what it promises.
 use Prim.Native.Nat.{ℕ, _+_, _-_}
-use Prim.Native.Int.{pos}
+use lib.IntN.{pos}
 use mathlib.Core.Bool.{Bool, true, not, cond, _&&_, _||_}
 use mathlib.Core.List.{List, [], _∷_}
 use mathlib.Core.Path.{_≡_}

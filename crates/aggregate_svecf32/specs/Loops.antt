@@ -18,9 +18,10 @@ pub record Given (h : Header) (p : Pair) (v : Vector) (more : ℕ) : Type 0 wher
   pub row : Sound v
   pub most : more ≤ 16777216
 
--- a vector that passed, and room for its entries
-pub record Divides (v : Vector) (oi : List ℕ) (ov : List Float) : Type 0 where
+-- a vector that passed, a count that is a float exactly, and room for the vector's entries
+pub record Divides (v : Vector) (count : ℕ) (oi : List ℕ) (ov : List Float) : Type 0 where
   pub sound : Sound v
+  pub most : count ≤ 16777216
   pub room : size v ≤ length oi
   pub room′ : size v ≤ length ov
 

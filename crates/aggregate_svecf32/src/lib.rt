@@ -2,6 +2,7 @@
 // anywhere in a lent pair of lists, and its header goes in by value and comes back in the answer. Every
 // call tests all it is given; a refusal hands back the header and leaves the lent lists as they were.
 
+mod moving;
 mod states;
 mod taking;
 mod writing;
@@ -108,14 +109,15 @@ impl Header {
         if !other.begun {
             return Told::Done(self, 0);
         }
-        let end = other.start + other.len;
+        let start = other.start;
+        let end = start + other.len;
         taking::take(
             self,
             ai,
             av,
             other.dims,
-            &bi[other.start..end],
-            &bv[other.start..end],
+            &bi[start..end],
+            &bv[start..end],
             other.count,
         )
     }
@@ -135,34 +137,32 @@ impl Header {
     ) -> Told
         ensures { λ r. ⌜ Moves self (pair (now (ai .entry)) (now (av .entry))) more (pair (now (ci .entry)) (now (cv .entry))) start length r (pair (now (ci .exit)) (now (cv .exit))) ⌝ }
     {
-        if let Checked::Refused(number, place) = self.check(ai, av) {
+        if let Checked::Refused(number, place) = moving::ready(
+            self,
+            ai,
+            av,
+            more,
+            ci,
+            cv,
+            start,
+            length,
+        ) {
             return Told::Refused(self, number, place);
         }
-        if !self.begun {
-            return Told::Refused(self, refusal::NOT_BEGUN, 0);
-        }
-        if (self.dims as usize) < more {
-            return Told::Refused(self, refusal::DIMS, 0);
-        }
-        if taking::has_room(self, more) {
-            return Told::Refused(self, refusal::NOT_NEEDED, 0);
-        }
-        if !regions::lies_inside(start, length, ci.len(), cv.len()) {
-            return Told::Refused(self, refusal::ROOM, length);
-        }
-        let capacity = regions::capacity(self.dims, self.len + more);
-        if length < capacity {
-            return Told::Refused(self, refusal::ROOM, capacity);
-        }
-        let end = self.start + self.len;
+        let from = self.start;
+        let end = from + self.len;
         let new_end = start + length;
         regions::copy(
-            &ai[self.start..end],
-            &av[self.start..end],
+            &ai[from..end],
+            &av[from..end],
             &mut ci[start..new_end],
             &mut cv[start..new_end],
         );
-        Told::Done(states::begun(start, length, self.dims, self.len, capacity, self.count), 0)
+        let capacity = regions::capacity(self.dims, self.len + more);
+        Told::Done(
+            states::begun(start, length, self.dims, self.len, capacity, self.count),
+            0,
+        )
     }
 
     // Writes the sum of the rows to the front of `oi` and `ov`, and answers its dims and entries. The
@@ -173,8 +173,9 @@ impl Header {
         if let Checked::Refused(number, place) = writing::ready(self, ai, av, oi.len(), ov.len()) {
             return Written::Refused(number, place);
         }
-        let end = self.start + self.len;
-        regions::copy(&ai[self.start..end], &av[self.start..end], oi, ov);
+        let start = self.start;
+        let end = start + self.len;
+        regions::copy(&ai[start..end], &av[start..end], oi, ov);
         Written::Done(self.dims, self.len)
     }
 
@@ -185,11 +186,12 @@ impl Header {
         if let Checked::Refused(number, place) = writing::ready(self, ai, av, oi.len(), ov.len()) {
             return Written::Refused(number, place);
         }
-        let end = self.start + self.len;
+        let start = self.start;
+        let end = start + self.len;
         let n = writing::divide(
             self.dims,
-            &ai[self.start..end],
-            &av[self.start..end],
+            &ai[start..end],
+            &av[start..end],
             self.count,
             oi,
             ov,

@@ -33,7 +33,16 @@ pub fn begun(
 fn is_all_zero(h: Header) -> bool
     ensures { λ r. ⌜ r ≡ allZero h ⌝ }
 {
-    h.dims == 0 && h.len == 0 && h.capacity == 0 && h.count == 0
+    if h.dims != 0 {
+        return false;
+    }
+    if h.len != 0 {
+        return false;
+    }
+    if h.capacity != 0 {
+        return false;
+    }
+    h.count == 0
 }
 
 // Whether a header that has begun is consistent.
@@ -56,9 +65,13 @@ fn is_begun_fairly(h: Header, ai: &[u32], av: &[f32]) -> bool
     if 16777216 < h.count {
         return false;
     }
-    let end = h.start + h.len;
-    if let Checked::Refused(number, place) = sparse::check(h.dims, &ai[h.start..end], &av[h.start..end])
-    {
+    let start = h.start;
+    let end = start + h.len;
+    if let Checked::Refused(number, place) = sparse::check(
+        h.dims,
+        &ai[start..end],
+        &av[start..end],
+    ) {
         return false;
     }
     true
@@ -69,5 +82,9 @@ pub fn is_consistent(h: Header, ai: &[u32], av: &[f32]) -> bool
     requires { ⌜ inside (h .start) (h .length) (pair (now ai) (now av)) ≡ true ⌝ }
     ensures { λ r. ⌜ r ≡ consistent h (pair (now (ai .entry)) (now (av .entry))) ⌝ }
 {
-    if h.begun { is_begun_fairly(h, ai, av) } else { is_all_zero(h) }
+    if h.begun {
+        is_begun_fairly(h, ai, av)
+    } else {
+        is_all_zero(h)
+    }
 }

@@ -41,8 +41,9 @@ fn begin(
     if h.length < capacity {
         return Told::Refused(h, refusal::ROOM, capacity);
     }
-    let end = h.start + h.length;
-    regions::copy(bi, bv, &mut ai[h.start..end], &mut av[h.start..end]);
+    let start = h.start;
+    let end = start + h.length;
+    regions::copy(bi, bv, &mut ai[start..end], &mut av[start..end]);
     Told::Done(
         states::begun(h.start, h.length, dims, bi.len(), capacity, count),
         bi.len(),
@@ -71,13 +72,18 @@ fn merge(
         return Told::Refused(h, refusal::COUNT, 0);
     }
     if !has_room(h, bi.len()) {
-        return Told::Refused(h, refusal::NEED, regions::capacity(h.dims, h.len + bi.len()));
+        return Told::Refused(
+            h,
+            refusal::NEED,
+            regions::capacity(h.dims, h.len + bi.len()),
+        );
     }
-    let end = h.start + h.length;
+    let start = h.start;
+    let end = start + h.length;
     let m = in_place::merge_in_place(
         dims,
-        &mut ai[h.start..end],
-        &mut av[h.start..end],
+        &mut ai[start..end],
+        &mut av[start..end],
         h.len,
         h.capacity,
         bi,

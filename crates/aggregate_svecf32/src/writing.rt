@@ -39,7 +39,7 @@ pub fn divide(
     oi: &mut [u32],
     ov: &mut [f32],
 ) -> usize
-    requires { ⌜ Divides (vector dims (now indexes) (now values)) (now oi) (now ov) ⌝ }
+    requires { ⌜ Divides (vector dims (now indexes) (now values)) count (now oi) (now ov) ⌝ }
     ensures { λ r. ⌜ Divided (shared count (vector dims (now (indexes .entry)) (now (values .entry)))) (now (oi .entry)) (now (ov .entry)) r (now (oi .exit)) (now (ov .exit)) ⌝ }
 {
     let by = count as f32;

@@ -35,7 +35,7 @@ pub record Shifted (si : List ℕ) (sv : List Float) (low len gap : ℕ) (si′ 
 pub record Roomy (a b : Vector) (cap : ℕ) (si : List ℕ) (sv : List Float) : Type 0 where
   pub left : Sound a
   pub right : Sound b
-  pub short : size a ≤ cap
+  pub same : a .dims ≡ b .dims
   pub spare : (size a + size b ≤ cap) ⊎ (cap ≡ a .dims)
   pub long : cap ≤ length si
   pub long′ : cap ≤ length sv

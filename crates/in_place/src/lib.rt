@@ -5,11 +5,12 @@
 
 use merges::Both;
 ghost use mathlib.Core.Path.{_≡_};
-ghost use lib.ListN.{take};
+ghost use Prim.Native.Nat.{_≤_};
+ghost use lib.ListN.{getD, take};
 ghost use Rattle.sparse.specs.Vectors.{vector};
 ghost use Rattle.merges.specs.Algebra.{joins};
 ghost use Rattle.merges.specs.declared.Op.the-variants.{Add};
-ghost use Rattle.in_place.specs.Turns.{firstIndex, rowTurns};
+ghost use Rattle.in_place.specs.Turns.{rowTurns};
 ghost use Rattle.in_place.specs.Loops.{Movable, Shifted, Roomy, around, Raised, Grown};
 
 // The first index of a row, or `dims` if it has none.
@@ -82,6 +83,7 @@ pub fn merge_in_place(
     ib: &[u32],
     vb: &[f32],
 ) -> Both
+    requires { ⌜ len ≤ cap ⌝ }
     requires { ⌜ Roomy (vector dims (take len (now si)) (take len (now sv))) (vector dims (now ib) (now vb)) cap (now si) (now sv) ⌝ }
     ensures { λ r. ⌜ Grown (joins Add (vector dims (take len (now (si .entry))) (take len (now (sv .entry)))) (vector dims (now (ib .entry)) (now (vb .entry)))) (rowTurns (vector dims (take len (now (si .entry))) (take len (now (sv .entry)))) (vector dims (now (ib .entry)) (now (vb .entry)))) cap (now (si .entry)) (now (sv .entry)) r (now (si .exit)) (now (sv .exit)) ⌝ }
 {

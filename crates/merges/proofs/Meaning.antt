@@ -20,7 +20,7 @@ use Rattle.merges.specs.declared.Op.the-variants.{Add, Sub, Mul}
 use Rattle.merges.proofs.Made.{joinAt}
 
 -- what is kept is no zero
-keep-nonzero : (w v : Float) → keep w ≡ Full v → isZero v ≡ false
+pub keep-nonzero : (w v : Float) → keep w ≡ Full v → isZero v ≡ false
 keep-nonzero w v e = go (isZero w) refl e
   where
     go : (b : Bool) → isZero w ≡ b → cond b Empty (Full w) ≡ Full v → isZero v ≡ false

@@ -7,11 +7,11 @@ use mathlib.Core.Bool.{Bool, true, false, not, _||_, or-true, true≢false}
 use mathlib.Core.List.{List, [], _∷_, _++_, append-assoc}
 use mathlib.Core.Logic.{_⊎_, inl, inr, ⊎-elim}
 use native.Mathlib.Decide.{decLe}
-use mathlib.Core.Path.{_≡_, refl, ap, ap₂, _∙_}
+use mathlib.Core.Path.{_≡_, refl, sym, ap, ap₂, _∙_}
 use borrow.Author.Tests.{ne-eqb}
 use lib.Dec.{eqb}
-use lib.ListN.{length, getD, set, drop, length-append, length-drop, List·getD-append}
-use lib.Seq.{drop-cons, set-at, getD-at, ext-getD}
+use lib.ListN.{length, getD, set, take, drop, length-append, length-drop, List·getD-append}
+use lib.Seq.{drop-cons, set-at, getD-at, getD-take, length-take-le, ext-getD}
 use Rattle.places.specs.Below.{one, countBelow, anyBelow, listBelow}
 
 pub le-or-lt : (m n : ℕ) → (m ≤ n) ⊎ (n < m)
@@ -144,6 +144,14 @@ pub list-all {ℓ} : {A : Type ℓ} (l : List A) (z : A) → listBelow (λ i. ge
 list-all l z =
     let e = length-below (λ i. getD l i z) (length l) in
     ext-getD z (listBelow (λ i. getD l i z) (length l)) l e (λ i h. at-below (λ j. getD l j z) (length l) i z (rw e at h))
+
+-- the first n entries of a list are what stands at its first n places
+pub list-front {ℓ} : {A : Type ℓ} (l : List A) (z : A) (n : ℕ) → n ≤ length l → listBelow (λ i. getD l i z) n ≡ take n l
+list-front l z n h =
+    let e : length (take n l) ≡ n = length-take-le n l h in
+    list-same (λ i. getD l i z) (λ i. getD (take n l) i z) n (λ i g. sym (getD-take n l i z g))
+    ∙ ap (listBelow (λ i. getD (take n l) i z)) (sym e)
+    ∙ list-all (take n l) z
 
 -- a store at the end of what was stored
 pub store {ℓ} : {A : Type ℓ} (f : ℕ → A) (old : List A) (n : ℕ) → n < length old

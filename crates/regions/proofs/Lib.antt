@@ -1,1 +1,3 @@
 -- Laws of regions and capacities.
+pub mod Capacities
+pub mod Stands

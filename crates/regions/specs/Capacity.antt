@@ -12,6 +12,6 @@ exponent n = firstFrom (λ k. leb n (2 ^ k)) n 4
 unfoldable pub capacityFor : ℕ → ℕ → ℕ
 capacityFor d n = min (2 ^ exponent n) d
 
--- "a capacity for some n up to 2,097,150": it is the capacity for itself (proofs/Capacity shows that this is the same)
+-- "a capacity for some n up to 2,097,150": it is the capacity for itself (proofs/Capacities shows that this is the same)
 abbrev pub isCapacity : ℕ → ℕ → Bool
 isCapacity d c = eqb (capacityFor d c) c

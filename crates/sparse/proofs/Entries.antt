@@ -40,6 +40,16 @@ module _ (f : ℕ → Cell) where
       go Empty h = omega arith
       go (Full v) h = omega arith
 
+-- functions that agree below n have the same entries
+pub entries-same : (f g : ℕ → Cell) (n : ℕ) → ((k : ℕ) → k < n → f k ≡ g k)
+    → (indexesBelow f n ≡ indexesBelow g n) × (valuesBelow f n ≡ valuesBelow g n)
+unfolding indexesBelow valuesBelow
+entries-same f g zero same = (refl, refl)
+entries-same f g (suc n) same =
+    let r = entries-same f g n (λ k h. same k (omega arith)) in
+    let e = same n (omega arith) in
+    (rw (r .0, e), rw (r .1, e))
+
 -- ---- stores
 
 -- a store at the end of what was stored

@@ -5,10 +5,11 @@ use native.Mathlib.Omega.{arith}
 use mathlib.Core.List.{List}
 use mathlib.Core.Logic.{⊎-elim}
 use mathlib.Core.Path.{_≡_, refl, sym, ap, ap₂, _∙_}
-use lib.ListN.{length, getD}
+use lib.ListN.{length, getD, take}
+use lib.Seq.{take-all}
 use lib.Ieee.{Float, nan}
 use Rattle.places.specs.Below.{listBelow}
-use Rattle.places.proofs.Below.{le-or-lt, list-all}
+use Rattle.places.proofs.Below.{le-or-lt, list-front}
 use Rattle.sparse.specs.Cells.{look, indexesBelow, valuesBelow}
 use Rattle.sparse.specs.Vectors.{Vector, vector, size, at, vectorOf}
 use Rattle.sparse.specs.Walk.{Rising, Split, Sound}
@@ -76,12 +77,21 @@ module _ (is : List ℕ) (vs : List Float) (even : length is ≡ length vs) (up 
       let m : r .0 ≡ e - s = omega (arith, in-order t to (omega arith), in-order to t (omega arith), in-order from to le) in
       rw (← m) (r .1)
 
+-- what stands at the places below a split are the entries before it
+pub front : (v : Vector) → Sound v → {e end : ℕ} → Split (v .indexes) e end
+    → (indexesBelow (at v) end ≡ take e (v .indexes)) × (valuesBelow (at v) end ≡ take e (v .values))
+front v s {e} {end} to =
+    let all = run (v .indexes) (v .values) (s .even) (s .rising) (split-start (v .indexes)) to (omega arith) in
+    let is : indexesBelow (at v) end ≡ listBelow (λ j. getD (v .indexes) j 0) e = simp (zero-add, sub-zero) at (all .indexes) in
+    let vs : valuesBelow (at v) end ≡ listBelow (λ j. getD (v .values) j nan) e = simp (zero-add, sub-zero) at (all .values) in
+    (is ∙ list-front (v .indexes) 0 e (to .within), vs ∙ list-front (v .values) nan e (omega (arith, to .within, s .even)))
+
 -- a vector is rebuilt from what stands at its places
 pub rebuilt : (v : Vector) → Sound v → v ≡ vectorOf (v .dims) (at v)
 rebuilt v s =
     let end : Split (v .indexes) (size v) (v .dims) = record { within = omega arith; low = s .below; high = λ j h l. absurd (omega arith) } in
-    let all = run (v .indexes) (v .values) (s .even) (s .rising) (split-start (v .indexes)) end (omega arith) in
-    let is : indexesBelow (at v) (v .dims) ≡ listBelow (λ j. getD (v .indexes) j 0) (size v) = simp (zero-add, sub-zero) at (all .indexes) in
-    let vs : valuesBelow (at v) (v .dims) ≡ listBelow (λ j. getD (v .values) j nan) (size v) = simp (zero-add, sub-zero) at (all .values) in
-    let es : valuesBelow (at v) (v .dims) ≡ v .values = vs ∙ ap (listBelow (λ j. getD (v .values) j nan)) (s .even) ∙ list-all (v .values) nan in
-    sym (ap₂ (vector (v .dims)) (is ∙ list-all (v .indexes) 0) es)
+    let all = front v s end in
+    let e = s .even in
+    let is = all .0 ∙ take-all (size v) (v .indexes) (omega arith) in
+    let vs = all .1 ∙ take-all (size v) (v .values) (omega arith) in
+    sym (ap₂ (vector (v .dims)) is vs)

@@ -1,16 +1,18 @@
 -- Calls that write a vector to a pair of lists: what they leave after a refusal and on success, and that only one outcome keeps the
 -- promise. Assumes nothing.
 use Prim.Native.Nat.{ℕ, _≤_, _<_}
-use mathlib.Core.Bool.{or-true}
+use mathlib.Core.Bool.{Bool, true, false, _||_, or-true}
 use mathlib.Core.List.{List, _++_}
-use mathlib.Core.Path.{_≡_, sym, ap, _∙_}
+use mathlib.Core.Path.{_≡_, refl, sym, ap, _∙_}
+use lib.Dec.{ltb}
 use lib.ListN.{length, drop}
 use lib.Ieee.{Float}
-use borrow.Author.Tests.{lt-ltb, le-ltb}
-use Rattle.refusal.specs.Answers.{Says, Answers, leaves, writtenOf}
+use borrow.Author.Tests.{lt-ltb, le-ltb, ltb-false}
+use Rattle.refusal.specs.Answers.{refuse, Says, Answers, leaves, writtenOf}
 use Rattle.refusal.specs.declared.Checked.{Checked}
 use Rattle.refusal.specs.declared.Checked.the-variants.{Valid, Refused}
 use Rattle.refusal.specs.declared.Written.the-variants.{Done, Refused as NotWritten}
+use Rattle.refusal.proofs.Chains.{refused-valid}
 use Rattle.refusal.proofs.Told.{written-answer}
 use Rattle.refusal.proofs.Only.{one-answer}
 use Rattle.sparse.specs.Vectors.{Vector, size}
@@ -26,6 +28,14 @@ room-values n i v h = rw (lt-ltb v n h, or-true)
 
 pub room-enough : (n i v : ℕ) → n ≤ i → n ≤ v → roomOf n i v ≡ Valid
 room-enough n i v h l = rw (le-ltb i n h, le-ltb v n l)
+
+pub room-passed : (n i v : ℕ) → roomOf n i v ≡ Valid → (n ≤ i) × (n ≤ v)
+room-passed n i v e = go (ltb i n) (ltb v n) refl refl e
+  where
+    go : (a b : Bool) → ltb i n ≡ a → ltb v n ≡ b → refuse (a || b) 9 n Valid ≡ Valid → (n ≤ i) × (n ≤ v)
+    go false false ea eb q = (ltb-false i n ea, ltb-false v n eb)
+    go true b ea eb q = absurd (refused-valid q)
+    go false true ea eb q = absurd (refused-valid q)
 
 -- ---- what is left
 

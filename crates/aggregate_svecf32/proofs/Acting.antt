@@ -1,0 +1,136 @@
+-- What a call on a state has to show, once for all calls: after a refusal nothing changed, and else its vector stands in the lists. And two
+-- outcomes that a call may have are equal, but in the open places of the lists. Assumes nothing.
+use Prim.Native.Nat.{ℕ, _+_, _≤_}
+use native.Mathlib.Omega.{arith}
+use mathlib.Core.List.{List, [], _∷_, _++_}
+use mathlib.Core.Path.{_≡_, refl, sym, ap, ap₂, _∙_}
+use lib.ListN.{length, take, drop}
+use lib.Ieee.{Float}
+use Rattle.refusal.specs.Answers.{tells, Answers}
+use Rattle.refusal.specs.declared.Checked.{Checked}
+use Rattle.refusal.specs.declared.Checked.the-variants.{Valid, Refused}
+use Rattle.refusal.proofs.Told.{answered}
+use Rattle.refusal.proofs.Only.{one-answer}
+use Rattle.sparse.specs.Vectors.{Vector, size}
+use Rattle.regions.specs.Loops.{Fitting, Copied}
+use Rattle.regions.specs.Regions.{Pair, pair, part, Stands}
+use Rattle.regions.proofs.Stands.{lent, part-length, stands-copied, stands-lent, stands-one, stands-same}
+use Rattle.aggregate_svecf32.specs.Calls.{Deed, toldSays, toldOf, Left, Acts}
+use Rattle.aggregate_svecf32.specs.declared.Header.{Header}
+use Rattle.aggregate_svecf32.specs.declared.Told.{Told}
+use Rattle.aggregate_svecf32.specs.declared.Told.the-variants.{Done, Refused as Kept}
+
+told-fair : (h new : Header) (turns : ℕ) (due : Checked) → toldSays (toldOf h new turns due) ≡ tells due (turns ∷ [])
+told-fair h new turns Valid = refl
+told-fair h new turns (Refused n c) = refl
+
+told-answer : (h new : Header) (turns : ℕ) {due : Checked} {r : Told} → r ≡ toldOf h new turns due
+    → Answers toldSays (turns ∷ []) (toldOf h new turns) due r
+told-answer h new turns e = answered toldSays (turns ∷ []) (toldOf h new turns) (told-fair h new turns) e
+
+-- ---- what a call does
+
+module _ {h : Header} {due : Checked} (d : Deed) {p : Pair} where
+  pub acts-refused : {n c : ℕ} → due ≡ Refused n c → Acts h due d p (Kept h n c) p
+  acts-refused e =
+      record {
+        answer = told-answer h (d .header) (d .turns) (ap (toldOf h (d .header) (d .turns)) (sym e));
+        indexes = rw e refl;
+        values = rw e refl;
+      }
+
+  pub acts-done : {q : Pair} → due ≡ Valid → Stands (d .header .start) (d .room) (d .vector .indexes) (p .indexes) (q .indexes)
+      → Stands (d .header .start) (d .room) (d .vector .values) (p .values) (q .values) → Acts h due d p (Done (d .header) (d .turns)) q
+  acts-done e is vs =
+      record {
+        answer = told-answer h (d .header) (d .turns) (ap (toldOf h (d .header) (d .turns)) (sym e));
+        indexes = rw e is;
+        values = rw e vs;
+      }
+
+-- ---- a vector that is copied
+
+-- the k places from `start` on lie inside both lists, and have room for v
+pub record Hosts (p : Pair) (start k : ℕ) (v : Vector) : Type 0 where
+  pub even : size v ≡ length (v .values)
+  pub short : size v ≤ k
+  pub indexes : start + k ≤ length (p .indexes)
+  pub values : start + k ≤ length (p .values)
+
+pub hosts-fitting : {p : Pair} {start k : ℕ} {v : Vector} → Hosts p start k v
+    → Fitting (v .indexes) (v .values) (part start k (p .indexes)) (part start k (p .values))
+hosts-fitting {p} {start} {k} s =
+    record {
+      even = s .even;
+      room = rw (part-length start k (p .indexes) (s .indexes)) (s .short);
+      room′ = rw (part-length start k (p .values) (s .values)) (s .short);
+    }
+
+-- what is copied to the front of a part that was lent stands in the whole list
+copied-lent {ℓ} : {A : Type ℓ} {start k n : ℕ} {xs l ys : List A} → start + k ≤ length l → n ≡ length xs → n ≤ k
+    → ys ≡ xs ++ drop (length xs) (part start k l) → Stands start n xs l (lent start k l ys)
+copied-lent {start = start} {k} {xs = xs} {l} fits e h c =
+    rw e (stands-lent fits (omega arith) (omega arith) (stands-copied c (omega (arith, part-length start k l fits))))
+
+-- the part of the lists was lent, and the vector copied to its front
+pub acts-copied : {h : Header} {due : Checked} (d : Deed) {p : Pair} {k : ℕ} {yi : List ℕ} {yv : List Float}
+    → let start = d .header .start in
+    due ≡ Valid → d .room ≡ size (d .vector) → Hosts p start k (d .vector)
+    → Copied (d .vector .indexes) (d .vector .values) (part start k (p .indexes)) (part start k (p .values)) yi yv
+    → Acts h due d p (Done (d .header) (d .turns)) (pair (lent start k (p .indexes) yi) (lent start k (p .values) yv))
+acts-copied d e filled s c =
+    let short = s .short in
+    acts-done d e
+    (copied-lent (s .indexes) filled (omega arith) (c .indexes))
+    (copied-lent (s .values) (filled ∙ s .even) (omega arith) (c .values))
+
+-- ---- what two outcomes have in common
+
+-- two lists agree before the open places, from `low` up to `high`, and after them
+pub record Agree {ℓ} {A : Type ℓ} (low high : ℕ) (a b : List A) : Type ℓ where
+  pub before : take low a ≡ take low b
+  pub after : drop high a ≡ drop high b
+
+agree {ℓ} : {A : Type ℓ} {start room : ℕ} {xs old a b : List A} → Stands start room xs old a → Stands start room xs old b
+    → Agree (start + length xs) (start + room) a b
+agree f g = let s = stands-one f g in record { before = s .0; after = s .1 }
+
+-- after a refusal the lists are equal, and else all but the open places: those within the room that the vector does not fill
+abbrev pub Alike : Checked → Deed → Pair → Pair → Type 0
+Alike Valid d a b =
+    let low = d .header .start in
+    Agree (low + size (d .vector)) (low + d .room) (a .indexes) (b .indexes)
+    × Agree (low + length (d .vector .values)) (low + d .room) (a .values) (b .values)
+Alike (Refused n c) d a b = a ≡ b
+
+-- the vector fills the room
+abbrev pub Filled : Deed → Type 0
+Filled d = (size (d .vector) ≡ d .room) × (length (d .vector .values) ≡ d .room)
+
+-- what is left of both lists
+abbrev BothLeft : Checked → Deed → Pair → Pair → Type 0
+BothLeft due d p q =
+    Left due (d .header .start) (d .room) (d .vector .indexes) (p .indexes) (q .indexes)
+    × Left due (d .header .start) (d .room) (d .vector .values) (p .values) (q .values)
+
+alike : (due : Checked) (d : Deed) (p a b : Pair) → BothLeft due d p a → BothLeft due d p b → Alike due d a b
+alike Valid d p a b f g = (agree (f .0) (g .0), agree (f .1) (g .1))
+alike (Refused n c) d p a b f g = ap₂ pair (f .0 ∙ sym (g .0)) (f .1 ∙ sym (g .1))
+
+same : (due : Checked) (d : Deed) (p a b : Pair) → (due ≡ Valid → Filled d) → BothLeft due d p a → BothLeft due d p b → a ≡ b
+same (Refused n c) d p a b fills f g = alike (Refused n c) d p a b f g
+same Valid d p a b fills f g =
+    let e = fills refl in
+    let i = rw (← e .0) at (f .0) in
+    let j = rw (← e .0) at (g .0) in
+    let v = rw (← e .1) at (f .1) in
+    let w = rw (← e .1) at (g .1) in
+    ap₂ pair (stands-same i j) (stands-same v w)
+
+module _ {h : Header} {due : Checked} {d : Deed} {p : Pair} {r s : Told} {a b : Pair} (f : Acts h due d p r a) (g : Acts h due d p s b) where
+  pub one-acts : (r ≡ s) × Alike due d a b
+  one-acts = (one-answer (f .answer) (g .answer), alike due d p a b (f .indexes, f .values) (g .indexes, g .values))
+
+  -- where the vector fills the room nothing is open
+  pub one-filled : (due ≡ Valid → Filled d) → (r ≡ s) × (a ≡ b)
+  one-filled fills = (one-answer (f .answer) (g .answer), same due d p a b fills (f .indexes, f .values) (g .indexes, g .values))

@@ -1,0 +1,91 @@
+-- `writing::divide` meets its contract. The loop's invariant: the quotients of the entries passed are written, without the zeros among them.
+-- The measure is the number of entries left. Assumes nothing.
+use Prim.Native.Nat.{_-_}
+use native.Mathlib.Omega.{arith}
+use lib.ListN.{length}
+use borrow.Author.Needs.{needs}
+use Rattle.sparse.specs.Vectors.{vector}
+use Rattle.aggregate_svecf32.proofs.Shares.{count-float, Dividing, dividing-start, dividing-lengths}
+use Rattle.aggregate_svecf32.proofs.Shares.{dividing-fits, dividing-more, dividing-done}
+use Rattle.aggregate_svecf32.proofs.writing.divide.Statement.{statement}
+use Rattle.aggregate_svecf32.proofs.writing.divide.Tie as tie
+
+abbrev Inv-loop : tie.InvT-loop
+Inv-loop dims indexes values count oi₀ ov₀ by n₀ p₀ oi ov n p = Dividing count (vector dims indexes values) oi₀ ov₀ oi ov p n
+
+abbrev μ-loop : tie.MeasureT-loop
+μ-loop dims indexes values count oi₀ ov₀ by n₀ p₀ oi ov n p = length indexes - p
+
+abbrev start : tie.At-loop Inv-loop μ-loop → tie.Start Inv-loop μ-loop
+start c = c .before .before .before .before .before .before
+
+int-to-float-by : tie.Need-int-to-float-by Inv-loop μ-loop
+int-to-float-by c = let s = c .before .before .before .before .before in count-float (s .args .count) (s .pre .most)
+
+loop-holds : tie.Need-loop-holds Inv-loop μ-loop
+loop-holds c = dividing-start
+
+mul-kept : tie.Need-mul-kept Inv-loop μ-loop
+mul-kept c = search needs
+
+shared-slice-read-kept : tie.Need-shared-slice-read-kept Inv-loop μ-loop
+shared-slice-read-kept c =
+    let l = c .before .before in
+    dividing-fits (start l .pre) (l .loop .inv) (omega arith) .0
+
+kept-requires : tie.Need-kept-requires Inv-loop μ-loop
+kept-requires c κs = search needs
+
+mul-put : tie.Need-mul-put Inv-loop μ-loop
+mul-put c = search needs
+
+shared-slice-read-put : tie.Need-shared-slice-read-put Inv-loop μ-loop
+shared-slice-read-put c = search needs
+
+put-requires : tie.Need-put-requires Inv-loop μ-loop
+put-requires c κs =
+    let l = c .before .before .before .before .before .before in
+    let f = dividing-fits (start l .pre) (l .loop .inv) (omega arith) in
+    (f .1, f .2)
+
+add-p : tie.Need-add-p Inv-loop μ-loop
+add-p c = search needs
+
+loop-less : tie.Need-loop-less Inv-loop μ-loop
+loop-less c = search needs
+
+loop-again : tie.Need-loop-again Inv-loop μ-loop
+loop-again c =
+    let k = c .before .before .before .before .before .before .before .before in
+    let l = k .before .before .before in
+    dividing-more (start l .pre) (l .loop .inv) (omega arith) (k .kept .ensures) (c .before .before .before .before .put .ensures)
+
+same-length : tie.Need-same-length Inv-loop μ-loop
+same-length c = dividing-lengths (start (c .before) .pre) (c .before .loop .inv) .0
+
+same-length-2 : tie.Need-same-length-2 Inv-loop μ-loop
+same-length-2 c = dividing-lengths (start (c .before) .pre) (c .before .loop .inv) .1
+
+returns : tie.Need-returns Inv-loop μ-loop
+returns c = dividing-done (start (c .before) .pre) (c .before .loop .inv) (omega arith)
+
+pub divide-spec : {M : Type 1} → statement M
+divide-spec =
+    tie.close
+    (tie.spec
+    Inv-loop
+    μ-loop
+    int-to-float-by
+    loop-holds
+    mul-kept
+    shared-slice-read-kept
+    kept-requires
+    mul-put
+    shared-slice-read-put
+    put-requires
+    add-p
+    loop-less
+    loop-again
+    same-length
+    same-length-2
+    returns)

@@ -1,0 +1,44 @@
+// What a move tests before it copies.
+
+use super::Header;
+use super::taking;
+use refusal::Checked;
+ghost use Rattle.refusal.specs.Answers.{Checks};
+ghost use Rattle.regions.specs.Regions.{pair};
+ghost use Rattle.aggregate_svecf32.specs.Calls.{moveOf};
+
+// What a state that is to be moved to a region of other lists, with room for `more` entries more,
+// refuses with.
+pub fn ready(
+    h: Header,
+    ai: &[u32],
+    av: &[f32],
+    more: usize,
+    ci: &[u32],
+    cv: &[f32],
+    start: usize,
+    length: usize,
+) -> Checked
+    ensures { λ r. ⌜ Checks (moveOf h (pair (now (ai .entry)) (now (av .entry))) more (pair (now (ci .entry)) (now (cv .entry))) start length) r ⌝ }
+{
+    if let Checked::Refused(number, place) = h.check(ai, av) {
+        return Checked::Refused(number, place);
+    }
+    if !h.begun {
+        return Checked::Refused(refusal::NOT_BEGUN, 0);
+    }
+    if (h.dims as usize) < more {
+        return Checked::Refused(refusal::DIMS, 0);
+    }
+    if taking::has_room(h, more) {
+        return Checked::Refused(refusal::NOT_NEEDED, 0);
+    }
+    if !regions::lies_inside(start, length, ci.len(), cv.len()) {
+        return Checked::Refused(refusal::ROOM, length);
+    }
+    let capacity = regions::capacity(h.dims, h.len + more);
+    if length < capacity {
+        return Checked::Refused(refusal::ROOM, capacity);
+    }
+    Checked::Valid
+}

@@ -1,0 +1,215 @@
+-- A merge of a row with entries that were moved to the far end of the room: it reads them there, writes what they give to the front, and never
+-- writes over one that it has not read. Assumes nothing.
+use Prim.Native.Nat.{ℕ, zero, suc, _+_, _-_, _≤_, _<_}
+use native.Mathlib.Nat.{add-zero}
+use native.Mathlib.Omega.{arith}
+use mathlib.Core.List.{List, _++_}
+use mathlib.Core.Logic.{⊎-elim}
+use mathlib.Core.Path.{_≡_, refl, sym, ap, ap₂, _∙_}
+use lib.ListN.{length, getD, take, drop, length-append, length-drop}
+use lib.Seq.{take-at, take-append-seam, length-take-le}
+use lib.Ieee.{Float}
+use Rattle.places.specs.Below.{countBelow}
+use Rattle.places.proofs.Below.{le-or-lt}
+use Rattle.sparse.specs.Cells.{indexesBelow, valuesBelow}
+use Rattle.sparse.specs.Vectors.{Vector, vector, size, at, inUnion}
+use Rattle.sparse.specs.Walk.{turn, Rising, Split, Sound, Taken, Standing, Turned, Put}
+use Rattle.sparse.specs.declared.Cell.{Cell}
+use Rattle.sparse.specs.declared.Turn.{Turn}
+use Rattle.sparse.proofs.Checks.{size-most}
+use Rattle.sparse.proofs.Entries.{entries-most, as-many, written-lengths}
+use Rattle.sparse.proofs.Walk.{Walk, Going, going-more, standing}
+use Rattle.merges.specs.Algebra.{added, joins}
+use Rattle.merges.specs.declared.Op.the-variants.{Add}
+use Rattle.merges.proofs.Made.{joinAt, Made, Merging, merging-more, merging-end}
+use Rattle.regions.specs.Regions.{part, Stands}
+use Rattle.regions.proofs.Stands.{past-front, stands-front}
+use Rattle.in_place.specs.Turns.{firstIndex, rowTurns}
+use Rattle.in_place.specs.Loops.{around, Roomy, Raised, Grown}
+use Rattle.in_place.proofs.Rest.{turned-left, around-from}
+use Rattle.in_place.proofs.First.{first-most, first-split, written-before, turns-from}
+
+-- rising indexes from p on that are not below f and are below d: at most d - f of them
+count-left : (is : List ℕ) (p f d : ℕ) → Rising is → Split is p f → ((j : ℕ) → j < length is → getD is j 0 < d) → f ≤ d
+    → length is + f ≤ d + p
+count-left is p f d up cut below le =
+    ⊎-elim
+    (λ h. omega (arith, cut .within))
+    (λ h.
+    let e : p + (length is - 1 - p) ≡ length is - 1 = omega arith in
+    let last = climbs (length is - 1 - p) (omega arith) in
+    omega (arith, rw e at last, below (length is - 1) (omega arith)))
+    (le-or-lt (length is) p)
+  where
+    climbs : (i : ℕ) → p + i < length is → f + i ≤ getD is (p + i) 0
+    climbs zero h = let e : p + 0 ≡ p = omega arith in rw e (omega (arith, cut .high p (omega arith) (omega arith)))
+    climbs (suc i) h = omega (arith, climbs i (omega arith), up (p + i) (p + suc i) (omega arith) h)
+
+-- from dims on no entry is left
+ended : (v : Vector) → Sound v → {p k : ℕ} → Split (v .indexes) p k → v .dims ≤ k → size v ≤ p
+ended v s {p} cut h = ⊎-elim (λ l. l) (λ l. absurd (omega (arith, cut .high p (omega arith) l, s .below p l))) (le-or-lt (size v) p)
+
+taken-within : (is : List ℕ) (vs : List Float) (p : ℕ) {k p′ : ℕ} {x : Cell} → Taken is vs p k x p′ → p ≤ length is → p′ ≤ length is
+taken-within is vs p t h = ⊎-elim (λ e. omega (arith, e .0, e .3)) (λ e. omega (arith, e .2)) t
+
+-- the union places below the row's first index
+abbrev pub below : Vector → Vector → ℕ
+below a b = countBelow (inUnion a b) (firstIndex b)
+
+-- the merge has passed p of the state's entries, the next of which stands at gap + p
+pub record Climbing (a b : Vector) (low gap : ℕ) (si : List ℕ) (sv : List Float) (si′ : List ℕ) (sv′ : List Float) (at q n turns : ℕ) : Type 0 where
+  pub p : ℕ
+  pub from : low ≤ p
+  pub stands : at ≡ gap + p
+  pub merging : Merging Add (below a b) a b si sv si′ sv′ p q n turns
+
+-- the entries as they lie in the lists when the merge begins
+abbrev pub lying : ℕ → ℕ → ℕ → ℕ → List ℕ → List Float → Vector
+lying d low gap cap si sv = vector d (around low gap cap si) (around low gap cap sv)
+
+module _ {d : ℕ} {b : Vector} {low gap cap : ℕ} {si : List ℕ} {sv : List Float} (r : Raised (lying d low gap cap si sv) b low gap cap si sv) where
+  abbrev a : Vector
+  a = lying d low gap cap si sv
+
+  sa : Sound a
+  sa = r .roomy .left
+
+  sb : Sound b
+  sb = r .roomy .right
+
+  -- the entries below the row's first index stand in front
+  pub climbing-start : Climbing a b low gap si sv si sv (gap + low) 0 low 0
+  climbing-start =
+      let cut = r .split in
+      let fits = r .roomy in
+      let n = r .far in
+      let i : low ≤ length si = omega (arith, cut .within, fits .long) in
+      let v : low ≤ length sv = omega (arith, cut .within, fits .long′) in
+      record {
+        p = low;
+        from = omega arith;
+        stands = refl;
+        merging = record {
+          few = omega arith;
+          steps = omega arith;
+          going = record {
+            front = firstIndex b;
+            inside = omega (arith, first-most b sb, r .roomy .same);
+            walk = record { left = cut; right = first-split b sb };
+            holds = record {
+              wrote = written-before a b sa sb cut si sv (take-at (take low si) _ low (length-take-le low si i)) (take-at (take low sv) _ low (length-take-le low sv v));
+              turned = add-zero (below a b);
+            };
+          };
+        };
+      }
+
+  module _ {si′ : List ℕ} {sv′ : List Float} {at q n turns : ℕ} (c : Climbing a b low gap si sv si′ sv′ at q n turns) where
+    g : Going a b d (Made Add (below a b) a b si sv si′ sv′ n turns) (c .p) q
+    g = c .merging .going
+
+    pub reached : at ≤ cap
+    reached = omega (arith, c .stands, g .walk .left .within, r .far)
+
+    -- entries and places: no more are written than passed, and no more than places passed
+    written-most : n ≤ g .front
+    written-most = omega (arith, g .holds .wrote .count, entries-most (joinAt Add a b) (g .front))
+
+    -- what is written does not reach what is read next
+    pub clear : n ≤ at
+    clear =
+        ⊎-elim
+        (λ room. omega (arith, room, c .stands, c .merging .few, g .walk .right .within, r .far))
+        (λ all.
+        omega (arith, all, c .stands, written-most, r .far, g .inside, count-left (a .indexes) (c .p) (g .front) d (sa .rising) (g .walk .left) (sa .below) (g .inside)))
+        (r .roomy .spare)
+
+    pub lengths : (length si′ ≡ length si) × (length sv′ ≡ length sv)
+    lengths =
+        written-lengths (g .holds .wrote) (omega (arith, clear, reached, r .roomy .long)) (omega (arith, clear, reached, r .roomy .long′))
+
+    -- what is read next is what is left of the entries
+    left {ℓ} : {A : Type ℓ} (old new xs : List A) → cap ≤ length old → new ≡ xs ++ drop n old → length xs ≡ n
+        → part at (cap - at) new ≡ drop (c .p) (around low gap cap old)
+    left old new xs long e count =
+        ap (take (cap - at)) (ap (drop at) e ∙ past-front xs old n at count clear)
+        ∙ ap (λ (k : ℕ). part k (cap - k) old) (c .stands)
+        ∙ sym (around-from old low gap cap long (c .p) (c .from) (omega (arith, reached, c .stands)))
+
+    left-indexes : part at (cap - at) si′ ≡ drop (c .p) (a .indexes)
+    left-indexes = let w = g .holds .wrote in left si si′ (indexesBelow (joinAt Add a b) (g .front)) (r .roomy .long) (w .indexes) (w .count)
+
+    left-values : part at (cap - at) sv′ ≡ drop (c .p) (a .values)
+    left-values =
+        let w = g .holds .wrote in
+        left sv sv′ (valuesBelow (joinAt Add a b) (g .front)) (r .roomy .long′) (w .values) (as-many (joinAt Add a b) (g .front) ∙ w .count)
+
+    module _ (h : at + q < cap + size b) where
+      pub climbing-standing : Standing (part at (cap - at) si′) (part at (cap - at) sv′) 0 (b .indexes) (b .values) q
+      climbing-standing =
+          let i = length-drop (c .p) (a .indexes) in
+          let v = length-drop (c .p) (a .values) in
+          let n = g .walk .left .within in
+          rw (left-indexes, left-values)
+          (record {
+            even = omega (arith, sa .even);
+            even′ = sb .even;
+            within = omega arith;
+            within′ = g .walk .right .within;
+            most = omega (arith, size-most sa, sa .high);
+            most′ = omega (arith, size-most sb, sb .high);
+            more = omega (arith, c .stands, r .far);
+          })
+
+      -- a turn passes no more than there is
+      pub turn-within : {t : Turn} → Turned (part at (cap - at) si′) (part at (cap - at) sv′) 0 (b .indexes) (b .values) q t
+          → (at + t .p ≤ cap) × (t .q ≤ size b)
+      turn-within {t} u =
+          let n = length-drop (c .p) (a .indexes) in
+          let l = ap length left-indexes in (
+            omega (arith, taken-within (part at (cap - at) si′) (part at (cap - at) sv′) 0 (u .left) (omega arith), c .stands, r .far, g .walk .left .within),
+            taken-within (b .indexes) (b .values) q (u .right) (g .walk .right .within),
+          )
+
+      -- an entry is left, and its place
+      place-left : g .front < d
+      place-left =
+          ⊎-elim
+          (λ l.
+          let w = g .walk in
+          absurd (omega (arith, c .stands, r .far, ended a sa (w .left) l, ended b sb (w .right) (omega (arith, r .roomy .same)))))
+          (λ l. l)
+          (le-or-lt d (g .front))
+
+      under : n < cap
+      under =
+          ⊎-elim
+          (λ room. omega (arith, room, c .stands, c .merging .few, r .far))
+          (λ all. omega (arith, all, written-most, place-left))
+          (r .roomy .spare)
+
+      pub room-left : (n < length si) × (n < length sv)
+      room-left = (omega (arith, under, r .roomy .long), omega (arith, under, r .roomy .long′))
+
+      pub climbing-more : {t : Turn} → Turned (part at (cap - at) si′) (part at (cap - at) sv′) 0 (b .indexes) (b .values) q t
+          → {z : Cell} {n′ : ℕ} {si″ : List ℕ} {sv″ : List Float} → z ≡ added (t .x) (t .y) → Put z (t .place) n si′ sv′ n′ si″ sv″
+          → Climbing a b low gap si sv si″ sv″ (at + t .p) (t .q) n′ (turns + 1)
+      climbing-more {t} u e put =
+          let v : Turned (drop (c .p) (a .indexes)) (drop (c .p) (a .values)) 0 (b .indexes) (b .values) q t = rw (left-indexes, left-values) at u in
+          record {
+            p = c .p + t .p;
+            from = omega (arith, c .from);
+            stands = omega (arith, c .stands);
+            merging = merging-more sa sb (c .merging) (r .roomy .same) (turned-left (a .indexes) (a .values) (c .p) v) (room-left .0) (room-left .1) e put;
+          }
+
+    pub climbing-end : cap + size b ≤ at + q → Grown (joins Add a b) (rowTurns a b) cap si sv (record { len = n; turns = turns }) si′ sv′
+    climbing-end h =
+        let made = merging-end sa sb (c .merging) (omega (arith, c .stands, r .far)) in
+        let w = made .wrote in
+        record {
+          count = sym (w .count);
+          turned = turns-from a b (omega (arith, first-most b sb, r .roomy .same)) turns (made .turned);
+          indexes = stands-front (indexesBelow (joinAt Add a b) d) si si′ n cap (w .indexes) (w .count) (omega (arith, clear, reached)) (r .roomy .long);
+          values = stands-front (valuesBelow (joinAt Add a b) d) sv sv′ n cap (w .values) (as-many (joinAt Add a b) d ∙ w .count) (omega (arith, clear, reached)) (r .roomy .long′);
+        }
