@@ -6,3 +6,5 @@ pub mod Acting
 pub mod Finishing
 pub mod Moved
 pub mod Begun
+pub mod Joined
+pub mod Coming

@@ -209,6 +209,7 @@ module _ {d : ℕ} {b : Vector} {low gap cap : ℕ} {si : List ℕ} {sv : List F
         let w = made .wrote in
         record {
           count = sym (w .count);
+          fits = omega (arith, w .count, clear, reached);
           turned = turns-from a b (omega (arith, first-most b sb, r .roomy .same)) turns (made .turned);
           indexes = stands-front (indexesBelow (joinAt Add a b) d) si si′ n cap (w .indexes) (w .count) (omega (arith, clear, reached)) (r .roomy .long);
           values = stands-front (valuesBelow (joinAt Add a b) d) sv sv′ n cap (w .values) (as-many (joinAt Add a b) d ∙ w .count) (omega (arith, clear, reached)) (r .roomy .long′);

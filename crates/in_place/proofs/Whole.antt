@@ -82,6 +82,7 @@ module _ {d len cap : ℕ} {b : Vector} {si : List ℕ} {sv : List Float} (le : 
         record {
           count = h .count;
           turned = h .turned;
+          fits = h .fits;
           indexes = stands-moved long-indexes (rw (s .indexes) (shift-after si (cap - len) len (m .room) low (m .order) cap far)) (h .indexes);
           values = stands-moved long-values (rw (s .values) (shift-after sv (cap - len) len (m .room′) low (m .order) cap far)) (h .values);
         }

@@ -50,9 +50,10 @@ pub record Raised (a b : Vector) (low gap cap : ℕ) (si : List ℕ) (sv : List 
   pub split : Split (a .indexes) low (firstIndex b)
   pub far : gap + size a ≡ cap
 
--- the entries of v stand in front, after so many turns, and from cap on nothing changed
+-- the entries of v, no more than cap, stand in front, after so many turns, and from cap on nothing changed
 pub record Grown (v : Vector) (turns cap : ℕ) (si : List ℕ) (sv : List Float) (r : Both) (si′ : List ℕ) (sv′ : List Float) : Type 0 where
   pub count : r .len ≡ size v
   pub turned : r .turns ≡ turns
+  pub fits : size v ≤ cap
   pub indexes : Stands 0 cap (v .indexes) si si′
   pub values : Stands 0 cap (v .values) sv sv′

@@ -1,0 +1,130 @@
+-- `taking::merge` meets its contract: each test refuses as it has to, and where none does the vector is merged in place in the region, and the
+-- header says so. Assumes nothing.
+use native.Mathlib.Omega.{arith}
+use mathlib.Core.Bool.{true}
+use mathlib.Core.Path.{_≡_, sym, _∙_}
+use borrow.Author.Needs.{needs}
+use borrow.Author.Tests.{not-true, not-false}
+use Rattle.sparse.specs.Vectors.{Vector, vector, size}
+use Rattle.sparse.proofs.Checks.{size-most}
+use Rattle.regions.specs.Regions.{Pair, pair}
+use Rattle.aggregate_svecf32.specs.Calls.{spare}
+use Rattle.aggregate_svecf32.proofs.Consistent.{Sure, state-sure}
+use Rattle.aggregate_svecf32.proofs.Acting.{acts-refused}
+use Rattle.aggregate_svecf32.proofs.Joined.{merge-differ, merge-count, merge-need, merge-roomy, merge-done}
+use borrow.Author.Needs.{needs}
+use Rattle.aggregate_svecf32.proofs.taking.merge.Statement.{statement}
+use Rattle.aggregate_svecf32.proofs.taking.merge.Tie as tie
+
+abbrev lists : tie.Start → Pair
+lists s = pair (s .args .ai .now) (s .args .av .now)
+
+abbrev row : tie.Start → Vector
+row s = vector (s .args .dims) (s .args .bi .now) (s .args .bv .now)
+
+-- the state passed its tests
+sure : (s : tie.Start) → Sure (s .args .h) (lists s)
+sure s = state-sure (s .args .h) (lists s) (s .pre .1 .state) (s .pre .0)
+
+-- it has room, or a place for every entry
+spares : (c : tie.Else3) → let s = c .before .before .before .before .before .before .before .before .before .before in spare (s .args .h) (size (row s)) ≡ true
+spares c = sym (c .before .has-room .ensures) ∙ not-false _ (c .if3 .left)
+
+returns : tie.Need-returns
+returns c = let s = c .before .before .before .before .before .before in acts-refused _ (merge-differ (s .args .h) (row s) (s .args .more) (c .if1 .taken))
+
+add-count : tie.Need-add-count
+add-count c = let s = c .before .before .before .before .before .before .before in omega (arith, sure s .fair .most, s .pre .1 .most)
+
+returns-2 : tie.Need-returns-2
+returns-2 c = let s = c .before .before .before .before .before .before .before .before in acts-refused _ (merge-count (s .args .h) (row s) (s .args .more) (c .before .before .if1 .left) (c .if2 .taken))
+
+has-room-requires : tie.Need-has-room-requires
+has-room-requires c κs = sure (c .before .before .before .before .before .before .before .before) .fair .room
+
+add-capacity : tie.Need-add-capacity
+add-capacity c = let s = c .before .before .before .before .before .before .before .before .before .before .before in let m = size-most (sure s .fair .sound) in let n = sure s .many in let d = sure s .fair .sound .high in search needs
+
+capacity-requires : tie.Need-capacity-requires
+capacity-requires c κs = search needs
+
+returns-3 : tie.Need-returns-3
+returns-3 c =
+    let s = c .before .before .before .before .before .before .before .before .before .before .before .before in
+    let none = sym (c .before .before .before .has-room .ensures) ∙ not-true _ (c .before .before .if3 .taken) in
+    rw (c .capacity .ensures) (acts-refused _ (merge-need (s .args .h) (row s) (s .args .more) (c .before .before .before .before .before .before .if1 .left) (c .before .before .before .before .if2 .left) none))
+
+add-end : tie.Need-add-end
+add-end c = let i = sure (c .before .before .before .before .before .before .before .before .before .before .before) .inside in search needs
+
+mul-merge-in-place : tie.Need-mul-merge-in-place
+mul-merge-in-place c = let i = sure (c .before .before .before .before .before .before .before .before .before .before .before) .inside in search needs
+
+sub-merge-in-place : tie.Need-sub-merge-in-place
+sub-merge-in-place c = search needs
+
+part-merge-in-place-start : tie.Need-part-merge-in-place-start
+part-merge-in-place-start c = search needs
+
+part-merge-in-place-end : tie.Need-part-merge-in-place-end
+part-merge-in-place-end c = let i = sure (c .before .before .before .before .before .before .before .before .before .before .before) .inside in search needs
+
+mul-merge-in-place-2 : tie.Need-mul-merge-in-place-2
+mul-merge-in-place-2 c = let i = sure (c .before .before .before .before .before .before .before .before .before .before .before .before) .inside in search needs
+
+sub-merge-in-place-2 : tie.Need-sub-merge-in-place-2
+sub-merge-in-place-2 c = search needs
+
+part-merge-in-place-start-2 : tie.Need-part-merge-in-place-start-2
+part-merge-in-place-start-2 c = search needs
+
+part-merge-in-place-end-2 : tie.Need-part-merge-in-place-end-2
+part-merge-in-place-end-2 c = let i = sure (c .before .before .before .before .before .before .before .before .before .before .before .before) .inside in search needs
+
+merge-in-place-requires : tie.Need-merge-in-place-requires
+merge-in-place-requires c κs =
+    let s = c .before .before .before .before .before .before .before .before .before .before .before .before .before in
+    let e = c .before .before .before in
+    (sure s .fair .room, merge-roomy (s .args .h) (lists s) (row s) (s .args .more) (s .pre .0) (s .pre .1) (e .before .before .before .before .if1 .left) (spares e))
+
+begun-requires : tie.Need-begun-requires
+begun-requires c κs = search needs
+
+same-length : tie.Need-same-length
+same-length c = search needs
+
+same-length-2 : tie.Need-same-length-2
+same-length-2 c = search needs
+
+returns-4 : tie.Need-returns-4
+returns-4 c =
+    let s = c .before .before .before .before .before .before .before .before .before .before .before .before .before .before .before .before .before .before .before in
+    let e = c .before .before .before .before .before .before .before .before .before in
+    rw (c .begun .ensures)
+    (merge-done (s .args .h) (lists s) (row s) (s .args .more) (s .pre .0) (s .pre .1) (e .before .before .before .before .if1 .left) (e .before .before .if2 .left) (spares e) (c .before .before .before .before .before .merge-in-place .ensures))
+
+pub merge-spec : {M : Type 1} → statement M
+merge-spec =
+    tie.close
+    (tie.spec
+    returns
+    add-count
+    returns-2
+    has-room-requires
+    add-capacity
+    capacity-requires
+    returns-3
+    add-end
+    mul-merge-in-place
+    sub-merge-in-place
+    part-merge-in-place-start
+    part-merge-in-place-end
+    mul-merge-in-place-2
+    sub-merge-in-place-2
+    part-merge-in-place-start-2
+    part-merge-in-place-end-2
+    merge-in-place-requires
+    begun-requires
+    same-length
+    same-length-2
+    returns-4)

@@ -1,0 +1,43 @@
+-- `taking::take` meets its contract. Assumes nothing.
+use borrow.Author.Needs.{needs}
+use Rattle.aggregate_svecf32.proofs.Coming.{take-merge, take-begin}
+use borrow.Author.Needs.{needs}
+use Rattle.aggregate_svecf32.proofs.taking.take.Statement.{statement}
+use Rattle.aggregate_svecf32.proofs.taking.take.Tie as tie
+
+merge-requires : tie.Need-merge-requires
+merge-requires c κs = search needs
+
+same-length : tie.Need-same-length
+same-length c = search needs
+
+same-length-2 : tie.Need-same-length-2
+same-length-2 c = search needs
+
+returns : tie.Need-returns
+returns c = take-merge _ _ _ _ (c .before .before .before .before .before .before .before .if1 .taken) (c .before .before .before .before .merge .ensures)
+
+begin-requires : tie.Need-begin-requires
+begin-requires c κs = search needs
+
+same-length-3 : tie.Need-same-length-3
+same-length-3 c = search needs
+
+same-length-4 : tie.Need-same-length-4
+same-length-4 c = search needs
+
+returns-2 : tie.Need-returns-2
+returns-2 c = take-begin _ _ _ _ (c .before .before .before .before .before .before .before .if1 .left) (c .before .before .before .before .begin .ensures)
+
+pub take-spec : {M : Type 1} → statement M
+take-spec =
+    tie.close
+    (tie.spec
+    merge-requires
+    same-length
+    same-length-2
+    returns
+    begin-requires
+    same-length-3
+    same-length-4
+    returns-2)
