@@ -18,17 +18,21 @@ pub fn number(n: u64) {
 }
 
 fn pattern(n: u32) {
-    text(b" ");
     io::print_hex(libc::STDOUT_FILENO, n as u64, 8);
 }
 
-// The bits of a NaN are not defined.
-pub fn float(x: f32) {
+// The digits of a float's bits. The bits of a NaN are not defined.
+pub fn bits(x: f32) {
     if x != x {
-        text(b" nan");
+        text(b"nan");
     } else {
         pattern(f32::to_bits(x));
     }
+}
+
+pub fn float(x: f32) {
+    text(b" ");
+    bits(x);
 }
 
 pub fn refused(n: u32, p: usize) {

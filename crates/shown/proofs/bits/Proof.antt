@@ -1,11 +1,11 @@
--- `shown::float` is safe. A float that does not differ from itself is no NaN, so its bit pattern is defined.
+-- `shown::bits` is safe. A float that does not differ from itself is no NaN, so its bit pattern is defined.
 use mathlib.Core.Path.{_≡_}
 use mathlib.Core.Bool.{false, not, true≢false}
 use lib.Dec.{T}
 use lib.Ieee.{Float, nan, inf, fin, isNan, ne}
 use borrow.Author.Needs.{needs}
-use Rattle.shown.proofs.float.Statement.{statement}
-use Rattle.shown.proofs.float.Tie as tie
+use Rattle.shown.proofs.bits.Statement.{statement}
+use Rattle.shown.proofs.bits.Tie as tie
 
 equals-itself : (x : Float) → ne x x ≡ false → T (not (isNan x))
 unfolding ne isNan
@@ -31,8 +31,8 @@ pattern-requires c κs = search needs
 returns-2 : tie.Need-returns-2
 returns-2 c = search needs
 
-pub float-spec : {M : Type 1} → statement M
-float-spec =
+pub bits-spec : {M : Type 1} → statement M
+bits-spec =
     tie.close
     (tie.spec
     slice-aggregate-text

@@ -1,0 +1,2 @@
+-- The definitions that the contracts of `test_aggregate` cite.
+pub mod Room
