@@ -37,8 +37,8 @@ fn shift(si: &mut [u32], sv: &mut [f32], low: usize, len: usize, gap: usize)
     }
 }
 
-// Merges a row with the entries before `low` and those from `gap + low` up to `cap`, of which none of
-// the first is reached by the row. The answer stands in front.
+// Merges a row with the entries of a state: the first `low` lie below the row and stand in front, the
+// others stand from `gap + low` up to `cap`. The answer stands in front.
 fn merge_up(
     dims: u32,
     si: &mut [u32],
