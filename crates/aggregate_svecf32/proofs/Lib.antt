@@ -9,3 +9,4 @@ pub mod Begun
 pub mod Joined
 pub mod Coming
 pub mod Keeps
+pub mod Outcomes
