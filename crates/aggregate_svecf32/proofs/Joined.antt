@@ -16,16 +16,16 @@ use Rattle.refusal.specs.Answers.{refuse}
 use Rattle.refusal.specs.declared.Checked.the-variants.{Valid, Refused}
 use Rattle.refusal.proofs.Chains.{refuse-valid}
 use Rattle.sparse.specs.Vectors.{Vector, vector, size}
+use Rattle.sparse.proofs.Entries.{as-many}
 use Rattle.merges.specs.Algebra.{joins}
 use Rattle.merges.specs.declared.Both.{Both}
 use Rattle.merges.specs.declared.Op.the-variants.{Add}
 use Rattle.merges.proofs.Made.{joinAt}
-use Rattle.sparse.proofs.Entries.{as-many}
 use Rattle.regions.specs.Capacity.{capacityFor}
 use Rattle.regions.specs.Regions.{Pair, pair, part}
 use Rattle.regions.proofs.Stands.{lent, part-length, stands-lent}
-use Rattle.in_place.specs.Turns.{rowTurns}
 use Rattle.in_place.specs.Loops.{Roomy, Grown}
+use Rattle.in_place.specs.Turns.{rowTurns}
 use Rattle.aggregate_svecf32.specs.States.{header, held}
 use Rattle.aggregate_svecf32.specs.Calls.{Acts, needs, spare, mergeOf, merged}
 use Rattle.aggregate_svecf32.specs.Loops.{Given}
@@ -124,9 +124,12 @@ module _ (h : Header) (p : Pair) (v : Vector) (more : ℕ) (begun : h .begun ≡
         long′ = omega (arith, f .fits, part-length (h .start) (whole h) (p .values) (omega (arith, i .values)));
       })
 
+  -- the region holds the sum of the vector a and v
+  abbrev Summed : Vector → Both → List ℕ → List Float → Type 0
+  Summed a = Grown (joins Add a v) (rowTurns a v) (h .capacity) (part (h .start) (whole h) (p .indexes)) (part (h .start) (whole h) (p .values))
+
   pub merge-done : h .count + more ≤ 16777216 → spare h (size v) ≡ true → {m : Both} {yi : List ℕ} {yv : List Float}
-      → (let a = lies h p (v .dims) in
-      Grown (joins Add a v) (rowTurns a v) (h .capacity) (part (h .start) (whole h) (p .indexes)) (part (h .start) (whole h) (p .values)) m yi yv)
+      → Summed (lies h p (v .dims)) m yi yv
       → Acts h (mergeOf h v more) (merged h p v more) p
       (Done (header (h .start) (h .length) true (v .dims) (m .len) (h .capacity) (h .count + more)) (m .turns))
       (pair (lent (h .start) (whole h) (p .indexes) yi) (lent (h .start) (whole h) (p .values) yv))
@@ -134,7 +137,7 @@ module _ (h : Header) (p : Pair) (v : Vector) (more : ℕ) (begun : h .begun ≡
       let i = sure .inside in
       let f = sure .fair in
       let sum = joins Add (held h p) v in
-      let w = subst (λ (a : Vector). Grown (joins Add a v) (rowTurns a v) (h .capacity) (part (h .start) (whole h) (p .indexes)) (part (h .start) (whole h) (p .values)) m yi yv) is-held grown in
+      let w : Summed (held h p) m yi yv = subst (λ (a : Vector). Summed a m yi yv) is-held grown in
       let many : length (sum .values) ≡ size sum = as-many (joinAt Add (held h p) v) (h .dims) in
       let told : Done (merged h p v more .header) (merged h p v more .turns)
       ≡ Done (header (h .start) (h .length) true (v .dims) (m .len) (h .capacity) (h .count + more)) (m .turns) =
