@@ -15,7 +15,7 @@ use Rattle.aggregate_svecf32.proofs.Joined.{merge-differ, merge-count, 
 use Rattle.aggregate_svecf32.proofs.taking.merge.Statement.{statement}
 use Rattle.aggregate_svecf32.proofs.taking.merge.Tie as tie
 
--- the tests passed, from the last to the first
+-- from where the last test passed back to where the others did, and to the start
 abbrev counted : tie.Else3 → tie.Else2
 counted c = c .before .before
 
@@ -25,7 +25,6 @@ alike c = c .before .before
 abbrev start : tie.Else1 → tie.Start
 start c = c .before .before .before .before .before .before
 
--- from the last on
 abbrev begin : tie.Else3 → tie.Start
 begin c = start (alike (counted c))
 
