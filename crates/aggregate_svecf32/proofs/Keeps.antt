@@ -106,8 +106,8 @@ module _ {h : Header} {due : Checked} {d : Deed} {p : Pair} {r : Told} {q : Pair
 -- the state and the vector passed, and the vector stands for some rows, no more than a count can be
 module _ (h : Header) (p : Pair) (v : Vector) (more : ℕ) (state : stateOf h p ≡ Valid) (row : Sound v) (some : 1 ≤ more)
     (most : more ≤ 16777216) where
-  begin-fits : beginOf h v ≡ Valid → Fits (begun h v more) p
-  begin-fits e =
+  begun-fits : beginOf h v ≡ Valid → Fits (begun h v more) p
+  begun-fits e =
       let c = capacityFor (v .dims) (size v) in
       let i = state-inside h p state in
       record {
@@ -124,8 +124,8 @@ module _ (h : Header) (p : Pair) (v : Vector) (more : ℕ) (state : stateOf h p 
         sound = row;
       }
 
-  merge-fits : h .begun ≡ true → mergeOf h v more ≡ Valid → Fits (merged h p v more) p
-  merge-fits t e =
+  merged-fits : h .begun ≡ true → mergeOf h v more ≡ Valid → Fits (merged h p v more) p
+  merged-fits t e =
       let s = state-sure h p state t in
       let f = s .fair in
       let i = s .inside in
@@ -147,12 +147,12 @@ module _ (h : Header) (p : Pair) (v : Vector) (more : ℕ) (state : stateOf h p 
         sound = sound sum (joins-valid Add (held h p) v (f .sound) row);
       }
 
-  pub take-fits : takeOf h v more ≡ Valid → Fits (taken h p v more) p
-  take-fits = go (h .begun) refl
+  pub taken-fits : takeOf h v more ≡ Valid → Fits (taken h p v more) p
+  taken-fits = go (h .begun) refl
     where
       go : (b : Bool) → h .begun ≡ b → cond b (mergeOf h v more) (beginOf h v) ≡ Valid → Fits (cond b (merged h p v more) (begun h v more)) p
-      go true t e = merge-fits t e
-      go false t e = begin-fits e
+      go true t e = merged-fits t e
+      go false t e = begun-fits e
 
 -- ---- the calls
 module _ (h : Header) (p : Pair) where
@@ -161,7 +161,7 @@ module _ (h : Header) (p : Pair) where
   row-fits v e =
       let a = next-valid (checkedOf v) _ e in
       let b = next-valid (stateOf h p) _ (a .1) in
-      take-fits h p v 1 (b .0) (sound v (a .0)) (omega arith) (omega arith) (b .1)
+      taken-fits h p v 1 (b .0) (sound v (a .0)) (omega arith) (omega arith) (b .1)
 
   pub combine-tests : (g : Header) (o : Pair) → combineOf h p g o ≡ Valid
       → (stateOf g o ≡ Valid) × (stateOf h p ≡ Valid) × (cond (g .begun) (takeOf h (held g o) (g .count)) Valid ≡ Valid)
@@ -171,15 +171,15 @@ module _ (h : Header) (p : Pair) where
       let b = next-valid (stateOf h p) _ (a .1) in
       (a .0, b .0, b .1)
 
-  pub combine-fits : (g : Header) (o : Pair) → g .begun ≡ true → combineOf h p g o ≡ Valid → Fits (combined h p g o) p
-  combine-fits g o t e =
+  pub combined-fits : (g : Header) (o : Pair) → g .begun ≡ true → combineOf h p g o ≡ Valid → Fits (combined h p g o) p
+  combined-fits g o t e =
       let c = combine-tests g o e in
       let f = state-sure g o (c .0) t .fair in
       let due : takeOf h (held g o) (g .count) ≡ Valid = rw t at (c .2) in
-      rw t (take-fits h p (held g o) (g .count) (c .1) (f .sound) (f .some) (f .most) due)
+      rw t (taken-fits h p (held g o) (g .count) (c .1) (f .sound) (f .some) (f .most) due)
 
-  pub move-fits : (n : ℕ) (q : Pair) (start long : ℕ) → moveOf h p n q start long ≡ Valid → Fits (moved h p n start long) q
-  move-fits n q start long e =
+  pub moved-fits : (n : ℕ) (q : Pair) (start long : ℕ) → moveOf h p n q start long ≡ Valid → Fits (moved h p n start long) q
+  moved-fits n q start long e =
       let m = moving h p n q start long e in
       let s = m .sure in
       let f = s .fair in
@@ -203,11 +203,11 @@ module _ (h : Header) (p : Pair) where
 
   pub move-keeps : (n : ℕ) (q : Pair) (start long : ℕ) {r : Told} {o : Pair} → Moves h p n q start long r o → moveOf h p n q start long ≡ Valid
       → Keeps (moved h p n start long) r o
-  move-keeps n q start long acts e = fits-keeps acts e (move-fits n q start long e)
+  move-keeps n q start long acts e = fits-keeps acts e (moved-fits n q start long e)
 
   module _ (g : Header) (o : Pair) {r : Told} {q : Pair} (acts : Combines h p g o r q) (e : combineOf h p g o ≡ Valid) where
     pub combine-keeps : g .begun ≡ true → Keeps (combined h p g o) r q
-    combine-keeps t = fits-keeps acts e (combine-fits g o t e)
+    combine-keeps t = fits-keeps acts e (combined-fits g o t e)
 
     -- a second state without rows changes nothing
     pub combine-leaves : g .begun ≡ false → (r ≡ Done h 0) × (q ≡ p)
@@ -217,8 +217,8 @@ module _ (h : Header) (p : Pair) where
         (rw t at (acts-told acts e), ap₂ pair (stands-none is) (stands-none vs))
 
     -- so in both cases
-    pub combine-state : stateOf (combined h p g o .header) q ≡ Valid
-    combine-state = go (g .begun) refl
+    pub combine-passes : stateOf (combined h p g o .header) q ≡ Valid
+    combine-passes = go (g .begun) refl
       where
         go : (b : Bool) → g .begun ≡ b → stateOf (combined h p g o .header) q ≡ Valid
         go true t = combine-keeps t .state

@@ -25,7 +25,7 @@ use Rattle.aggregate_svecf32.specs.declared.Told.the-variants.{Done, Ref
 use Rattle.aggregate_svecf32.proofs.Acting.{acts-refused, acts-done}
 use Rattle.aggregate_svecf32.proofs.Coming.{combine-none}
 use Rattle.aggregate_svecf32.proofs.Finishing.{finish-sure}
-use Rattle.aggregate_svecf32.proofs.Keeps.{Fits, row-fits, combine-tests, combine-fits, move-fits}
+use Rattle.aggregate_svecf32.proofs.Keeps.{Fits, row-fits, combine-tests, combined-fits, moved-fits}
 use Rattle.aggregate_svecf32.proofs.Shares.{shared-many}
 
 -- ---- calls on a state
@@ -68,14 +68,14 @@ module _ (h : Header) (p : Pair) where
   combine-some g o = acts-some h (combineOf h p g o) (combined h p g o) p (go (g .begun) refl)
     where
       go : (b : Bool) → g .begun ≡ b → combineOf h p g o ≡ Valid → (r : Told) × (q : Pair) × Combines h p g o r q
-      go true t e = fits-some h (combineOf h p g o) (combined h p g o) p e (combine-fits h p g o t e)
+      go true t e = fits-some h (combineOf h p g o) (combined h p g o) p e (combined-fits h p g o t e)
       go false t e = let c = combine-tests h p g o e in (Done h 0, p, combine-none h p g o (c .0) (c .1) t)
 
   pub move-some : (n : ℕ) (q : Pair) (start long : ℕ) → (r : Told) × (o : Pair) × Moves h p n q start long r o
   move-some n q start long =
       let d = moved h p n start long in
       let due = moveOf h p n q start long in
-      acts-some h due d q (λ e. fits-some h due d q e (move-fits h p n q start long e))
+      acts-some h due d q (λ e. fits-some h due d q e (moved-fits h p n q start long e))
 
 -- ---- sum and average
 
