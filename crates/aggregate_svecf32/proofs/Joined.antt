@@ -4,25 +4,28 @@ use native.Mathlib.Omega.{arith}
 use mathlib.Core.Bool.{Bool, true, false, not, _&&_, _||_}
 use mathlib.Core.List.{List}
 use mathlib.Core.Logic.{_⊎_, inl, inr, ⊎-elim}
-use mathlib.Core.Path.{_≡_, refl, sym, ap, ap₂, subst, _∙_}
+use mathlib.Core.Path.{_≡_, refl, sym, ap₂, subst, _∙_}
 use lib.Dec.{eqb, leb, ltb}
 use lib.ListN.{length, take}
 use lib.Seq.{take-take}
 use lib.Ieee.{Float}
-use borrow.Author.Tests.{eq-eqb, ne-eqb, lt-ltb, le-ltb, le-leb, lt-leb, eqb-true, leb-true}
+use borrow.Author.Tests.{eq-eqb, ne-eqb, lt-ltb, le-ltb, le-leb, lt-leb, eqb-true, leb-true, ltb-false, not-false}
 use Rattle.places.proofs.Below.{le-or-lt}
+use Rattle.refusal.specs.Numbers.{DIFFER, NEED, COUNT}
+use Rattle.refusal.specs.Answers.{refuse}
 use Rattle.refusal.specs.declared.Checked.the-variants.{Valid, Refused}
+use Rattle.refusal.proofs.Chains.{refuse-valid}
 use Rattle.sparse.specs.Vectors.{Vector, vector, size}
+use Rattle.sparse.proofs.Entries.{as-many}
 use Rattle.merges.specs.Algebra.{joins}
 use Rattle.merges.specs.declared.Both.{Both}
 use Rattle.merges.specs.declared.Op.the-variants.{Add}
 use Rattle.merges.proofs.Made.{joinAt}
-use Rattle.sparse.proofs.Entries.{as-many}
 use Rattle.regions.specs.Capacity.{capacityFor}
 use Rattle.regions.specs.Regions.{Pair, pair, part}
 use Rattle.regions.proofs.Stands.{lent, part-length, stands-lent}
-use Rattle.in_place.specs.Turns.{rowTurns}
 use Rattle.in_place.specs.Loops.{Roomy, Grown}
+use Rattle.in_place.specs.Turns.{rowTurns}
 use Rattle.aggregate_svecf32.specs.States.{header, held}
 use Rattle.aggregate_svecf32.specs.Calls.{Acts, needs, spare, mergeOf, merged}
 use Rattle.aggregate_svecf32.specs.Loops.{Given}
@@ -43,7 +46,7 @@ needs-spare h n = rw (below-not (h .capacity - h .len) n) (go (eqb (h .capacity)
     go true b = refl
     go false b = refl
 
-room-or-all : (h : Header) (n : ℕ) → spare h n ≡ true → (n ≤ h .capacity - h .len) ⊎ (h .capacity ≡ h .dims)
+pub room-or-all : (h : Header) (n : ℕ) → spare h n ≡ true → (n ≤ h .capacity - h .len) ⊎ (h .capacity ≡ h .dims)
 room-or-all h n = go (eqb (h .capacity) (h .dims)) (leb n (h .capacity - h .len)) refl refl
   where
     go : (a b : Bool) → eqb (h .capacity) (h .dims) ≡ a → leb n (h .capacity - h .len) ≡ b → (a || b) ≡ true
@@ -66,6 +69,20 @@ module _ (h : Header) (v : Vector) (more : ℕ) where
 
       pub merge-passes : spare h (size v) ≡ true → mergeOf h v more ≡ Valid
       merge-passes e = rw (eq-eqb (h .dims) (v .dims) same, le-ltb 16777216 (h .count + more) few, needs-spare h (size v), e)
+
+  -- where the tests find nothing each of them failed
+  pub merge-passed : mergeOf h v more ≡ Valid → (h .dims ≡ v .dims) × (h .count + more ≤ 16777216) × (spare h (size v) ≡ true)
+  merge-passed e =
+      let c = capacityFor (h .dims) (h .len + size v) in
+      let need = refuse (needs h (size v)) NEED c Valid in
+      let few = refuse (ltb 16777216 (h .count + more)) COUNT 0 need in
+      let a = refuse-valid (not (eqb (h .dims) (v .dims))) DIFFER 0 few e in
+      let b = refuse-valid (ltb 16777216 (h .count + more)) COUNT 0 need (a .1) in
+      let d = refuse-valid (needs h (size v)) NEED c Valid (b .1) in (
+        eqb-true (h .dims) (v .dims) (not-false (eqb (h .dims) (v .dims)) (a .0)),
+        ltb-false 16777216 (h .count + more) (b .0),
+        not-false (spare h (size v)) (sym (needs-spare h (size v)) ∙ d .0),
+      )
 
 -- ---- the region, lent as the places from its start up to its end
 
@@ -107,9 +124,12 @@ module _ (h : Header) (p : Pair) (v : Vector) (more : ℕ) (begun : h .begun ≡
         long′ = omega (arith, f .fits, part-length (h .start) (whole h) (p .values) (omega (arith, i .values)));
       })
 
+  -- the region holds the sum of the vector a and v
+  abbrev Summed : Vector → Both → List ℕ → List Float → Type 0
+  Summed a = Grown (joins Add a v) (rowTurns a v) (h .capacity) (part (h .start) (whole h) (p .indexes)) (part (h .start) (whole h) (p .values))
+
   pub merge-done : h .count + more ≤ 16777216 → spare h (size v) ≡ true → {m : Both} {yi : List ℕ} {yv : List Float}
-      → (let a = lies h p (v .dims) in
-      Grown (joins Add a v) (rowTurns a v) (h .capacity) (part (h .start) (whole h) (p .indexes)) (part (h .start) (whole h) (p .values)) m yi yv)
+      → Summed (lies h p (v .dims)) m yi yv
       → Acts h (mergeOf h v more) (merged h p v more) p
       (Done (header (h .start) (h .length) true (v .dims) (m .len) (h .capacity) (h .count + more)) (m .turns))
       (pair (lent (h .start) (whole h) (p .indexes) yi) (lent (h .start) (whole h) (p .values) yv))
@@ -117,7 +137,7 @@ module _ (h : Header) (p : Pair) (v : Vector) (more : ℕ) (begun : h .begun ≡
       let i = sure .inside in
       let f = sure .fair in
       let sum = joins Add (held h p) v in
-      let w = subst (λ (a : Vector). Grown (joins Add a v) (rowTurns a v) (h .capacity) (part (h .start) (whole h) (p .indexes)) (part (h .start) (whole h) (p .values)) m yi yv) is-held grown in
+      let w : Summed (held h p) m yi yv = subst (λ (a : Vector). Summed a m yi yv) is-held grown in
       let many : length (sum .values) ≡ size sum = as-many (joinAt Add (held h p) v) (h .dims) in
       let told : Done (merged h p v more .header) (merged h p v more .turns)
       ≡ Done (header (h .start) (h .length) true (v .dims) (m .len) (h .capacity) (h .count + more)) (m .turns) =

@@ -8,3 +8,5 @@ pub mod Moved
 pub mod Begun
 pub mod Joined
 pub mod Coming
+pub mod Keeps
+pub mod Outcomes

@@ -5,27 +5,27 @@ use native.Mathlib.Nat.{add-zero}
 use native.Mathlib.Omega.{arith}
 use mathlib.Core.List.{List, _++_}
 use mathlib.Core.Logic.{⊎-elim}
-use mathlib.Core.Path.{_≡_, refl, sym, ap, ap₂, _∙_}
-use lib.ListN.{length, getD, take, drop, length-append, length-drop}
-use lib.Seq.{take-at, take-append-seam, length-take-le}
+use mathlib.Core.Path.{_≡_, refl, sym, ap, _∙_}
+use lib.ListN.{length, getD, take, drop, length-drop}
+use lib.Seq.{take-at, length-take-le}
 use lib.Ieee.{Float}
 use Rattle.places.specs.Below.{countBelow}
 use Rattle.places.proofs.Below.{le-or-lt}
 use Rattle.sparse.specs.Cells.{indexesBelow, valuesBelow}
 use Rattle.sparse.specs.Vectors.{Vector, vector, size, at, inUnion}
-use Rattle.sparse.specs.Walk.{turn, Rising, Split, Sound, Taken, Standing, Turned, Put}
+use Rattle.sparse.specs.Walk.{Rising, Split, Sound, Taken, Standing, Turned, Put}
 use Rattle.sparse.specs.declared.Cell.{Cell}
 use Rattle.sparse.specs.declared.Turn.{Turn}
 use Rattle.sparse.proofs.Checks.{size-most}
 use Rattle.sparse.proofs.Entries.{entries-most, as-many, written-lengths}
-use Rattle.sparse.proofs.Walk.{Walk, Going, going-more, standing}
+use Rattle.sparse.proofs.Walk.{Going}
 use Rattle.merges.specs.Algebra.{added, joins}
 use Rattle.merges.specs.declared.Op.the-variants.{Add}
 use Rattle.merges.proofs.Made.{joinAt, Made, Merging, merging-more, merging-end}
-use Rattle.regions.specs.Regions.{part, Stands}
+use Rattle.regions.specs.Regions.{part}
 use Rattle.regions.proofs.Stands.{past-front, stands-front}
 use Rattle.in_place.specs.Turns.{firstIndex, rowTurns}
-use Rattle.in_place.specs.Loops.{around, Roomy, Raised, Grown}
+use Rattle.in_place.specs.Loops.{around, Raised, Grown}
 use Rattle.in_place.proofs.Rest.{turned-left, around-from}
 use Rattle.in_place.proofs.First.{first-most, first-split, written-before, turns-from}
 
@@ -97,7 +97,9 @@ module _ {d : ℕ} {b : Vector} {low gap cap : ℕ} {si : List ℕ} {sv : List F
             inside = omega (arith, first-most b sb, r .roomy .same);
             walk = record { left = cut; right = first-split b sb };
             holds = record {
-              wrote = written-before a b sa sb cut si sv (take-at (take low si) _ low (length-take-le low si i)) (take-at (take low sv) _ low (length-take-le low sv v));
+              wrote = written-before a b sa sb cut si sv
+                  (take-at (take low si) _ low (length-take-le low si i))
+                  (take-at (take low sv) _ low (length-take-le low sv v));
               turned = add-zero (below a b);
             };
           };
@@ -121,7 +123,8 @@ module _ {d : ℕ} {b : Vector} {low gap cap : ℕ} {si : List ℕ} {sv : List F
         ⊎-elim
         (λ room. omega (arith, room, c .stands, c .merging .few, g .walk .right .within, r .far))
         (λ all.
-        omega (arith, all, c .stands, written-most, r .far, g .inside, count-left (a .indexes) (c .p) (g .front) d (sa .rising) (g .walk .left) (sa .below) (g .inside)))
+        let few = count-left (a .indexes) (c .p) (g .front) d (sa .rising) (g .walk .left) (sa .below) (g .inside) in
+        omega (arith, all, c .stands, written-most, r .far, g .inside, few))
         (r .roomy .spare)
 
     pub lengths : (length si′ ≡ length si) × (length sv′ ≡ length sv)
@@ -166,8 +169,9 @@ module _ {d : ℕ} {b : Vector} {low gap cap : ℕ} {si : List ℕ} {sv : List F
           → (at + t .p ≤ cap) × (t .q ≤ size b)
       turn-within {t} u =
           let n = length-drop (c .p) (a .indexes) in
-          let l = ap length left-indexes in (
-            omega (arith, taken-within (part at (cap - at) si′) (part at (cap - at) sv′) 0 (u .left) (omega arith), c .stands, r .far, g .walk .left .within),
+          let l = ap length left-indexes in
+          let within = taken-within (part at (cap - at) si′) (part at (cap - at) sv′) 0 (u .left) (omega arith) in (
+            omega (arith, within, c .stands, r .far, g .walk .left .within),
             taken-within (b .indexes) (b .values) q (u .right) (g .walk .right .within),
           )
 
@@ -200,17 +204,20 @@ module _ {d : ℕ} {b : Vector} {low gap cap : ℕ} {si : List ℕ} {sv : List F
             p = c .p + t .p;
             from = omega (arith, c .from);
             stands = omega (arith, c .stands);
-            merging = merging-more sa sb (c .merging) (r .roomy .same) (turned-left (a .indexes) (a .values) (c .p) v) (room-left .0) (room-left .1) e put;
+            merging = merging-more sa sb (c .merging) (r .roomy .same) (turned-left (a .indexes) (a .values) (c .p) v)
+                (room-left .0) (room-left .1) e put;
           }
 
     pub climbing-end : cap + size b ≤ at + q → Grown (joins Add a b) (rowTurns a b) cap si sv (record { len = n; turns = turns }) si′ sv′
     climbing-end h =
         let made = merging-end sa sb (c .merging) (omega (arith, c .stands, r .far)) in
         let w = made .wrote in
+        let fits : n ≤ cap = omega (arith, clear, reached) in
         record {
           count = sym (w .count);
-          fits = omega (arith, w .count, clear, reached);
+          fits = omega (arith, w .count);
           turned = turns-from a b (omega (arith, first-most b sb, r .roomy .same)) turns (made .turned);
-          indexes = stands-front (indexesBelow (joinAt Add a b) d) si si′ n cap (w .indexes) (w .count) (omega (arith, clear, reached)) (r .roomy .long);
-          values = stands-front (valuesBelow (joinAt Add a b) d) sv sv′ n cap (w .values) (as-many (joinAt Add a b) d ∙ w .count) (omega (arith, clear, reached)) (r .roomy .long′);
+          indexes = stands-front (indexesBelow (joinAt Add a b) d) si si′ n cap (w .indexes) (w .count) fits (r .roomy .long);
+          values = stands-front (valuesBelow (joinAt Add a b) d) sv sv′ n cap (w .values) (as-many (joinAt Add a b) d ∙ w .count) fits
+              (r .roomy .long′);
         }

@@ -1,20 +1,17 @@
 -- Where a row begins: the entries of the state below its first index stay, and no turn is taken for them. Assumes nothing.
-use Prim.Native.Nat.{ℕ, zero, suc, _+_, _-_, _≤_, _<_}
-use native.Mathlib.Nat.{eq-or-lt-of-le}
+use Prim.Native.Nat.{ℕ, suc, _+_, _≤_, _<_}
 use native.Mathlib.Omega.{arith}
-use mathlib.Core.Bool.{Bool, false, _&&_}
+use mathlib.Core.Bool.{Bool, _&&_}
 use mathlib.Core.List.{List, [], _∷_, _++_}
-use mathlib.Core.Logic.{⊎-elim}
 use mathlib.Core.Path.{_≡_, refl, sym, ap, _∙_}
 use lib.Dec.{leb}
 use lib.ListN.{length, getD, take, drop, take-append-drop}
-use lib.Seq.{take-at, length-take-le}
+use lib.Seq.{length-take-le}
 use lib.Ieee.{Float}
 use borrow.Author.Tests.{le-leb, lt-leb}
 use Rattle.places.specs.Below.{countBelow}
 use Rattle.places.proofs.Below.{count-zero, count-rest}
-use Rattle.sparse.specs.Cells.{indexesBelow, valuesBelow}
-use Rattle.sparse.specs.Vectors.{Vector, vector, size, at, inUnion}
+use Rattle.sparse.specs.Vectors.{Vector, at, inUnion}
 use Rattle.sparse.specs.Walk.{Split, Sound}
 use Rattle.sparse.specs.declared.Cell.{Cell}
 use Rattle.sparse.specs.declared.Cell.the-variants.{Empty, Full}

@@ -37,7 +37,8 @@ module _ {d len cap : ℕ} {b : Vector} {si : List ℕ} {sv : List Float} (le : 
         room′ = omega (arith, r .long′);
       }
 
-  module _ {low : ℕ} (cut : Split (take len si) low (firstIndex b)) {mi : List ℕ} {mv : List Float} (s : Shifted si sv low len (cap - len) mi mv) where
+  module _ {low : ℕ} (cut : Split (take len si) low (firstIndex b)) {mi : List ℕ} {mv : List Float}
+      (s : Shifted si sv low len (cap - len) mi mv) where
     far : cap - len + len ≡ cap
     far = omega arith
 

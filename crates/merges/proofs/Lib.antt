@@ -3,3 +3,4 @@ pub mod Made
 pub mod Common
 pub mod Answered
 pub mod Meaning
+pub mod Sizes

@@ -1,21 +1,28 @@
 -- `in_place::merge_in_place` meets its contract: the move to the far end and the merge up from there make one merge. Assumes nothing.
-use Prim.Native.Nat.{_+_, _-_, _≤_}
 use native.Mathlib.Nat.{sub-zero}
 use native.Mathlib.Omega.{arith}
-use mathlib.Core.Path.{_≡_}
 use lib.ListN.{take}
 use borrow.Author.Needs.{needs}
 use Rattle.sparse.specs.Vectors.{vector}
 use Rattle.sparse.specs.Walk.{Split}
 use Rattle.in_place.specs.Turns.{firstIndex}
 use Rattle.in_place.proofs.Whole.{movable, raised, grown}
-use borrow.Author.Needs.{needs}
 use Rattle.in_place.proofs.merge_in_place.Statement.{statement}
 use Rattle.in_place.proofs.merge_in_place.Tie as tie
 
+-- the start, the search and the move
+abbrev start : tie.After-partition-point → tie.Start
+start c = c .before .before .before .before .before .before .before .before
+
+abbrev found : tie.After-shift → tie.After-partition-point
+found c = c .before .before .before
+
+abbrev moved : tie.After-merge-up-arg2 → tie.After-shift
+moved c = c .before .before .before .before .before .before
+
 -- the entries below the row's first index
-cut : (c : tie.After-partition-point)
-    → let a = c .before .before .before .before .before .before .before .before .args in Split (take (a .len) (a .si .now)) (c .partition-point .result) (firstIndex (vector (a .dims) (a .ib .now) (a .vb .now)))
+cut : (c : tie.After-partition-point) → let a = start c .args in
+    Split (take (a .len) (a .si .now)) (c .partition-point .result) (firstIndex (vector (a .dims) (a .ib .now) (a .vb .now)))
 cut c = rw (sub-zero, c .before .before .before .first-index .ensures) at (c .partition-point .ensures)
 
 first-index-requires : tie.Need-first-index-requires
@@ -34,13 +41,20 @@ partition-point-requires : tie.Need-partition-point-requires
 partition-point-requires c κs = rw sub-zero (c .before .before .before .before .before .before .before .pre .1 .left .rising)
 
 sub-gap : tie.Need-sub-gap
-sub-gap c = omega (arith, c .before .before .before .before .before .before .before .before .pre .0)
+sub-gap c = omega (arith, start c .pre .0)
 
 shift-requires : tie.Need-shift-requires
-shift-requires c κs = let s = c .before .before .before .before .before .before .before .before .before .before in movable (s .pre .0) (s .pre .1) (cut (c .before .before))
+shift-requires c κs =
+    let f = c .before .before in
+    let s = start f in
+    movable (s .pre .0) (s .pre .1) (cut f)
 
 merge-up-requires : tie.Need-merge-up-requires
-merge-up-requires c κs = let s = c .before .before .before .before .before .before .before .before .before .before .before .before .before .before .before .before .before in raised (s .pre .0) (s .pre .1) (cut (c .before .before .before .before .before .before .before .before .before)) (c .before .before .before .before .before .before .shift .ensures)
+merge-up-requires c κs =
+    let m = moved c in
+    let f = found m in
+    let s = start f in
+    raised (s .pre .0) (s .pre .1) (cut f) (m .shift .ensures)
 
 same-length : tie.Need-same-length
 same-length c = search needs
@@ -49,7 +63,12 @@ same-length-2 : tie.Need-same-length-2
 same-length-2 c = search needs
 
 returns : tie.Need-returns
-returns c = let s = c .before .before .before .before .before .before .before .before .before .before .before .before .before .before .before .before .before .before .before .before .before .before in grown (s .pre .0) (s .pre .1) (cut (c .before .before .before .before .before .before .before .before .before .before .before .before .before .before)) (c .before .before .before .before .before .before .before .before .before .before .before .shift .ensures) (c .before .before .before .before .merge-up .ensures)
+returns c =
+    let u = c .before .before .before .before in
+    let m = moved (u .before) in
+    let f = found m in
+    let s = start f in
+    grown (s .pre .0) (s .pre .1) (cut f) (m .shift .ensures) (u .merge-up .ensures)
 
 pub merge-in-place-spec : {M : Type 1} → statement M
 merge-in-place-spec =

@@ -7,7 +7,8 @@ use borrow.Author.Needs.{needs}
 use Rattle.sparse.specs.Vectors.{vector}
 use Rattle.sparse.proofs.Checks.{sizes-most}
 use Rattle.sparse.proofs.Walk.{passed}
-use Rattle.in_place.proofs.Climbs.{Climbing, lying, climbing-start, reached, lengths, climbing-standing, turn-within, room-left, climbing-more, climbing-end}
+use Rattle.in_place.proofs.Climbs.{Climbing, lying, climbing-start, climbing-standing, climbing-more, climbing-end}
+use Rattle.in_place.proofs.Climbs.{reached, lengths, turn-within, room-left}
 use Rattle.in_place.proofs.merge_up.Statement.{statement}
 use Rattle.in_place.proofs.merge_up.Tie as tie
 
@@ -18,12 +19,22 @@ Inv-loop dims si₀ sv₀ low gap cap ib vb at₀ q₀ n₀ turns₀ si sv at q 
 abbrev μ-loop : tie.MeasureT-loop
 μ-loop dims si₀ sv₀ low gap cap ib vb at₀ q₀ n₀ turns₀ si sv at q n turns = cap + length ib - (at + q)
 
--- before the loop; and the loop in the turn whose entry is stored
+-- before the loop
 abbrev start : tie.At-loop Inv-loop μ-loop → tie.Start Inv-loop μ-loop
 start c = c .before .before .before .before .before
 
+-- the store of a turn, the turn itself, and the loop where it began
+abbrev stored : tie.After-struct-known Inv-loop μ-loop → tie.After-put Inv-loop μ-loop
+stored c = c .before .before .before .before .before
+
+abbrev turn : tie.After-put Inv-loop μ-loop → tie.After-one-turn Inv-loop μ-loop
+turn c = c .before .before .before .before
+
+abbrev inner : tie.After-one-turn Inv-loop μ-loop → tie.In-loop Inv-loop μ-loop
+inner c = c .before .before .before .before .before
+
 abbrev walked : tie.After-struct-known Inv-loop μ-loop → tie.At-loop Inv-loop μ-loop
-walked c = c .before .before .before .before .before .before .before .before .before .before .before .before .before .before .before
+walked c = inner (turn (stored c)) .before
 
 add-at : tie.Need-add-at Inv-loop μ-loop
 add-at c = search needs
@@ -61,7 +72,9 @@ part-one-turn-start-2 : tie.Need-part-one-turn-start-2 Inv-loop μ-loop
 part-one-turn-start-2 c = search needs
 
 part-one-turn-end-2 : tie.Need-part-one-turn-end-2 Inv-loop μ-loop
-part-one-turn-end-2 c = let l = c .before .before .before .before in omega (arith, lengths (start l .pre) (l .loop .inv) .1, start l .pre .roomy .long′)
+part-one-turn-end-2 c =
+    let l = c .before .before .before .before in
+    omega (arith, lengths (start l .pre) (l .loop .inv) .1, start l .pre .roomy .long′)
 
 one-turn-requires : tie.Need-one-turn-requires Inv-loop μ-loop
 one-turn-requires c κs =
@@ -81,7 +94,8 @@ put-requires c κs =
 add-at-2 : tie.Need-add-at-2 Inv-loop μ-loop
 add-at-2 c =
     let l = walked c in
-    omega (arith, turn-within (start l .pre) (l .loop .inv) (c .before .before .before .before .before .before .before .before .before .before .before .before .before .before .loop-test .taken) (c .before .before .before .before .before .before .before .before .before .one-turn .ensures) .0)
+    let t = turn (stored c) in
+    omega (arith, turn-within (start l .pre) (l .loop .inv) (inner t .loop-test .taken) (t .one-turn .ensures) .0)
 
 add-turns : tie.Need-add-turns Inv-loop μ-loop
 add-turns c =
@@ -92,23 +106,26 @@ add-turns c =
 loop-less : tie.Need-loop-less Inv-loop μ-loop
 loop-less c =
     let l = walked c in
-    let u = c .before .before .before .before .before .before .before .before .before .one-turn .ensures in
-    let most = turn-within (start l .pre) (l .loop .inv) (c .before .before .before .before .before .before .before .before .before .before .before .before .before .before .loop-test .taken) u in
-    omega (arith, most .0, most .1, u .some)
+    let t = turn (stored c) in
+    let most = turn-within (start l .pre) (l .loop .inv) (inner t .loop-test .taken) (t .one-turn .ensures) in
+    omega (arith, most .0, most .1, t .one-turn .ensures .some)
 
 loop-again : tie.Need-loop-again Inv-loop μ-loop
 loop-again c =
     let l = walked c in
-    climbing-more (start l .pre) (l .loop .inv) (c .before .before .before .before .before .before .before .before .before .before .before .before .before .before .loop-test .taken) (c .before .before .before .before .before .before .before .before .before .one-turn .ensures) (c .before .before .before .before .before .before .before .before .add-cells .ensures) (c .before .before .before .before .before .put .ensures)
+    let s = stored c in
+    let t = turn s in
+    climbing-more (start l .pre) (l .loop .inv) (inner t .loop-test .taken) (t .one-turn .ensures) (s .before .before .before .add-cells .ensures)
+    (s .put .ensures)
 
 same-length : tie.Need-same-length Inv-loop μ-loop
-same-length c = lengths (c .before .before .before .before .before .before .pre) (c .before .loop .inv) .0
+same-length c = lengths (start (c .before) .pre) (c .before .loop .inv) .0
 
 same-length-2 : tie.Need-same-length-2 Inv-loop μ-loop
-same-length-2 c = lengths (c .before .before .before .before .before .before .pre) (c .before .loop .inv) .1
+same-length-2 c = lengths (start (c .before) .pre) (c .before .loop .inv) .1
 
 returns : tie.Need-returns Inv-loop μ-loop
-returns c = climbing-end (c .before .before .before .before .before .before .pre) (c .before .loop .inv) (omega arith)
+returns c = climbing-end (start (c .before) .pre) (c .before .loop .inv) (omega arith)
 
 pub merge-up-spec : {M : Type 1} → statement M
 merge-up-spec =

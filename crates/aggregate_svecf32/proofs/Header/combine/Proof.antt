@@ -3,26 +3,35 @@ use mathlib.Core.Path.{_≡_, sym, _∙_}
 use borrow.Author.Needs.{needs}
 use borrow.Author.Tests.{not-true, not-false}
 use Rattle.refusal.specs.declared.Checked.the-variants.{Valid}
-use Rattle.regions.specs.Regions.{pair}
+use Rattle.regions.specs.Regions.{Pair, pair}
 use Rattle.aggregate_svecf32.specs.States.{stateOf}
 use Rattle.aggregate_svecf32.proofs.Consistent.{Sure, state-sure}
 use Rattle.aggregate_svecf32.proofs.Held.{ends-inside, cut-sound}
 use Rattle.aggregate_svecf32.proofs.Acting.{acts-refused}
 use Rattle.aggregate_svecf32.proofs.Coming.{combine-bad, combine-state, combine-none, combine-on}
-use borrow.Author.Needs.{needs}
 use Rattle.aggregate_svecf32.proofs.Header.combine.Statement.{statement}
 use Rattle.aggregate_svecf32.proofs.Header.combine.Tie as tie
 
--- the second state passed, and then the first
-passed : (c : tie.After-enum-told) → let a = c .before .before .before .before .before .before .before .args in stateOf (a .other) (pair (a .bi .now) (a .bv .now)) ≡ Valid
+abbrev start : tie.After-enum-told → tie.Start
+start c = c .before .before .before .before .before .before .before
+
+abbrev others : tie.Start → Pair
+others s = pair (s .args .bi .now) (s .args .bv .now)
+
+-- the second state passed
+passed : (c : tie.After-enum-told) → let s = start c in stateOf (s .args .other) (others s) ≡ Valid
 passed c = sym (c .before .before .check .ensures .answer) ∙ c .enum-told .given .1
 
-fair : (c : tie.After-enum-told2) → let a = c .before .before .before .before .before .before .before .before .before .before .before .before .args in stateOf (a .self) (pair (a .ai .now) (a .av .now)) ≡ Valid
+-- and then the first
+abbrev first : tie.After-enum-told2 → tie.After-enum-told
+first c = c .before .before .before .before .before
+
+fair : (c : tie.After-enum-told2) → let a = start (first c) .args in stateOf (a .self) (pair (a .ai .now) (a .av .now)) ≡ Valid
 fair c = sym (c .before .before .check2 .ensures .answer) ∙ c .enum-told2 .given .1
 
 -- the second has begun
-second : (c : tie.Else1) → let a = c .before .before .before .before .before .before .before .before .before .before .before .before .before .before .args in Sure (a .other) (pair (a .bi .now) (a .bv .now))
-second c = state-sure _ _ (passed (c .before .before .before .before .before .before .before)) (not-false _ (c .if1 .left))
+second : (c : tie.Else1) → let s = start (first (c .before .before)) in Sure (s .args .other) (others s)
+second c = state-sure _ _ (passed (first (c .before .before))) (not-false _ (c .if1 .left))
 
 check-requires : tie.Need-check-requires
 check-requires c κs = search needs
@@ -49,7 +58,9 @@ same-length-2 : tie.Need-same-length-2
 same-length-2 c = search needs
 
 returns-2 : tie.Need-returns-2
-returns-2 c = acts-refused _ (combine-state _ _ _ _ (passed (c .before .before .before .before .before .before)) (sym (c .before .before .before .check2 .ensures .answer) ∙ c .before .number2 .given .1))
+returns-2 c =
+    let t = c .before .before .before in
+    acts-refused _ (combine-state _ _ _ _ (passed (t .before .before .before)) (sym (t .check2 .ensures .answer) ∙ c .before .number2 .given .1))
 
 enum-told-2 : tie.Need-enum-told-2
 enum-told-2 c = search needs
@@ -61,7 +72,9 @@ same-length-4 : tie.Need-same-length-4
 same-length-4 c = search needs
 
 returns-3 : tie.Need-returns-3
-returns-3 c = let e = c .before .before in combine-none _ _ _ _ (passed (e .before .before .before .before .before)) (fair e) (not-true _ (c .if1 .taken))
+returns-3 c =
+    let e = c .before .before in
+    combine-none _ _ _ _ (passed (first e)) (fair e) (not-true _ (c .if1 .taken))
 
 add-end : tie.Need-add-end
 add-end c = let e = ends-inside (second (c .before)) in search needs
@@ -104,9 +117,10 @@ same-length-6 c = search needs
 
 returns-4 : tie.Need-returns-4
 returns-4 c =
-    let l = c .before .before .before .before .before .before .before .before .before .before in
+    let t = c .before .before .before .before in
+    let l = t .before .before .before .before .before .before in
     let e = l .before .before in
-    combine-on _ _ _ _ (passed (e .before .before .before .before .before)) (fair e) (not-false _ (l .if1 .left)) (c .before .before .before .before .take .ensures)
+    combine-on _ _ _ _ (passed (first e)) (fair e) (not-false _ (l .if1 .left)) (t .take .ensures)
 
 pub combine-spec : {M : Type 1} → statement M
 combine-spec =

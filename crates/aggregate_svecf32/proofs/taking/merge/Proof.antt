@@ -9,12 +9,24 @@ use Rattle.sparse.specs.Vectors.{Vector, vector, size}
 use Rattle.sparse.proofs.Checks.{size-most}
 use Rattle.regions.specs.Regions.{Pair, pair}
 use Rattle.aggregate_svecf32.specs.Calls.{spare}
-use Rattle.aggregate_svecf32.proofs.Consistent.{Sure, state-sure}
+use Rattle.aggregate_svecf32.proofs.Consistent.{Inside, Sure, state-sure}
 use Rattle.aggregate_svecf32.proofs.Acting.{acts-refused}
 use Rattle.aggregate_svecf32.proofs.Joined.{merge-differ, merge-count, merge-need, merge-roomy, merge-done}
-use borrow.Author.Needs.{needs}
 use Rattle.aggregate_svecf32.proofs.taking.merge.Statement.{statement}
 use Rattle.aggregate_svecf32.proofs.taking.merge.Tie as tie
+
+-- from where the last test passed back to where the others did, and to the start
+abbrev counted : tie.Else3 → tie.Else2
+counted c = c .before .before
+
+abbrev alike : tie.Else2 → tie.Else1
+alike c = c .before .before
+
+abbrev start : tie.Else1 → tie.Start
+start c = c .before .before .before .before .before .before
+
+abbrev begin : tie.Else3 → tie.Start
+begin c = start (alike (counted c))
 
 abbrev lists : tie.Start → Pair
 lists s = pair (s .args .ai .now) (s .args .av .now)
@@ -26,39 +38,56 @@ row s = vector (s .args .dims) (s .args .bi .now) (s .args .bv .now)
 sure : (s : tie.Start) → Sure (s .args .h) (lists s)
 sure s = state-sure (s .args .h) (lists s) (s .pre .1 .state) (s .pre .0)
 
+inner : (c : tie.Else3) → let s = begin c in Inside (s .args .h) (lists s)
+inner c = sure (begin c) .inside
+
 -- it has room, or a place for every entry
-spares : (c : tie.Else3) → let s = c .before .before .before .before .before .before .before .before .before .before in spare (s .args .h) (size (row s)) ≡ true
+spares : (c : tie.Else3) → let s = begin c in spare (s .args .h) (size (row s)) ≡ true
 spares c = sym (c .before .has-room .ensures) ∙ not-false _ (c .if3 .left)
 
 returns : tie.Need-returns
-returns c = let s = c .before .before .before .before .before .before in acts-refused _ (merge-differ (s .args .h) (row s) (s .args .more) (c .if1 .taken))
+returns c =
+    let s = c .before .before .before .before .before .before in
+    acts-refused _ (merge-differ (s .args .h) (row s) (s .args .more) (c .if1 .taken))
 
 add-count : tie.Need-add-count
-add-count c = let s = c .before .before .before .before .before .before .before in omega (arith, sure s .fair .most, s .pre .1 .most)
+add-count c = let s = start (c .before) in omega (arith, sure s .fair .most, s .pre .1 .most)
 
 returns-2 : tie.Need-returns-2
-returns-2 c = let s = c .before .before .before .before .before .before .before .before in acts-refused _ (merge-count (s .args .h) (row s) (s .args .more) (c .before .before .if1 .left) (c .if2 .taken))
+returns-2 c =
+    let e = c .before .before in
+    let s = start e in
+    acts-refused _ (merge-count (s .args .h) (row s) (s .args .more) (e .if1 .left) (c .if2 .taken))
 
 has-room-requires : tie.Need-has-room-requires
-has-room-requires c κs = sure (c .before .before .before .before .before .before .before .before) .fair .room
+has-room-requires c κs = sure (start (alike c)) .fair .room
 
 add-capacity : tie.Need-add-capacity
-add-capacity c = let s = c .before .before .before .before .before .before .before .before .before .before .before in let m = size-most (sure s .fair .sound) in let n = sure s .many in let d = sure s .fair .sound .high in search needs
+add-capacity c =
+    let s = sure (start (alike (c .before .before .before))) in
+    let m = size-most (s .fair .sound) in
+    let n = s .many in
+    let d = s .fair .sound .high in
+    search needs
 
 capacity-requires : tie.Need-capacity-requires
 capacity-requires c κs = search needs
 
 returns-3 : tie.Need-returns-3
 returns-3 c =
-    let s = c .before .before .before .before .before .before .before .before .before .before .before .before in
-    let none = sym (c .before .before .before .has-room .ensures) ∙ not-true _ (c .before .before .if3 .taken) in
-    rw (c .capacity .ensures) (acts-refused _ (merge-need (s .args .h) (row s) (s .args .more) (c .before .before .before .before .before .before .if1 .left) (c .before .before .before .before .if2 .left) none))
+    let r = c .before .before .before in
+    let none = sym (r .has-room .ensures) ∙ not-true _ (c .before .before .if3 .taken) in
+    let few = r .before in
+    let e = alike few in
+    let s = start e in
+    rw (c .capacity .ensures)
+    (acts-refused _ (merge-need (s .args .h) (row s) (s .args .more) (e .if1 .left) (few .if2 .left) none))
 
 add-end : tie.Need-add-end
-add-end c = let i = sure (c .before .before .before .before .before .before .before .before .before .before .before) .inside in search needs
+add-end c = let i = inner (c .before) in search needs
 
 mul-merge-in-place : tie.Need-mul-merge-in-place
-mul-merge-in-place c = let i = sure (c .before .before .before .before .before .before .before .before .before .before .before) .inside in search needs
+mul-merge-in-place c = let i = inner (c .before) in search needs
 
 sub-merge-in-place : tie.Need-sub-merge-in-place
 sub-merge-in-place c = search needs
@@ -67,10 +96,10 @@ part-merge-in-place-start : tie.Need-part-merge-in-place-start
 part-merge-in-place-start c = search needs
 
 part-merge-in-place-end : tie.Need-part-merge-in-place-end
-part-merge-in-place-end c = let i = sure (c .before .before .before .before .before .before .before .before .before .before .before) .inside in search needs
+part-merge-in-place-end c = let i = inner (c .before) in search needs
 
 mul-merge-in-place-2 : tie.Need-mul-merge-in-place-2
-mul-merge-in-place-2 c = let i = sure (c .before .before .before .before .before .before .before .before .before .before .before .before) .inside in search needs
+mul-merge-in-place-2 c = let i = inner (c .before .before) in search needs
 
 sub-merge-in-place-2 : tie.Need-sub-merge-in-place-2
 sub-merge-in-place-2 c = search needs
@@ -79,13 +108,14 @@ part-merge-in-place-start-2 : tie.Need-part-merge-in-place-start-2
 part-merge-in-place-start-2 c = search needs
 
 part-merge-in-place-end-2 : tie.Need-part-merge-in-place-end-2
-part-merge-in-place-end-2 c = let i = sure (c .before .before .before .before .before .before .before .before .before .before .before .before) .inside in search needs
+part-merge-in-place-end-2 c = let i = inner (c .before .before) in search needs
 
 merge-in-place-requires : tie.Need-merge-in-place-requires
 merge-in-place-requires c κs =
-    let s = c .before .before .before .before .before .before .before .before .before .before .before .before .before in
     let e = c .before .before .before in
-    (sure s .fair .room, merge-roomy (s .args .h) (lists s) (row s) (s .args .more) (s .pre .0) (s .pre .1) (e .before .before .before .before .if1 .left) (spares e))
+    let s = begin e in
+    let same = alike (counted e) .if1 .left in
+    (sure s .fair .room, merge-roomy (s .args .h) (lists s) (row s) (s .args .more) (s .pre .0) (s .pre .1) same (spares e))
 
 begun-requires : tie.Need-begun-requires
 begun-requires c κs = search needs
@@ -98,10 +128,13 @@ same-length-2 c = search needs
 
 returns-4 : tie.Need-returns-4
 returns-4 c =
-    let s = c .before .before .before .before .before .before .before .before .before .before .before .before .before .before .before .before .before .before .before in
-    let e = c .before .before .before .before .before .before .before .before .before in
+    let m = c .before .before .before .before .before in
+    let e = m .before .before .before .before in
+    let few = counted e in
+    let s = begin e in
     rw (c .begun .ensures)
-    (merge-done (s .args .h) (lists s) (row s) (s .args .more) (s .pre .0) (s .pre .1) (e .before .before .before .before .if1 .left) (e .before .before .if2 .left) (spares e) (c .before .before .before .before .before .merge-in-place .ensures))
+    (merge-done (s .args .h) (lists s) (row s) (s .args .more) (s .pre .0) (s .pre .1) (alike few .if1 .left) (few .if2 .left) (spares e)
+    (m .merge-in-place .ensures))
 
 pub merge-spec : {M : Type 1} → statement M
 merge-spec =

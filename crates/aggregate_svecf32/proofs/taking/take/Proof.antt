@@ -1,7 +1,6 @@
--- `taking::take` meets its contract. Assumes nothing.
+-- `taking::take` meets its contract: a state that has begun merges the vector, and another begins with it. Assumes nothing.
 use borrow.Author.Needs.{needs}
 use Rattle.aggregate_svecf32.proofs.Coming.{take-merge, take-begin}
-use borrow.Author.Needs.{needs}
 use Rattle.aggregate_svecf32.proofs.taking.take.Statement.{statement}
 use Rattle.aggregate_svecf32.proofs.taking.take.Tie as tie
 
@@ -15,7 +14,9 @@ same-length-2 : tie.Need-same-length-2
 same-length-2 c = search needs
 
 returns : tie.Need-returns
-returns c = take-merge _ _ _ _ (c .before .before .before .before .before .before .before .if1 .taken) (c .before .before .before .before .merge .ensures)
+returns c =
+    let m = c .before .before .before .before in
+    take-merge _ _ _ _ (m .before .before .before .if1 .taken) (m .merge .ensures)
 
 begin-requires : tie.Need-begin-requires
 begin-requires c κs = search needs
@@ -27,7 +28,9 @@ same-length-4 : tie.Need-same-length-4
 same-length-4 c = search needs
 
 returns-2 : tie.Need-returns-2
-returns-2 c = take-begin _ _ _ _ (c .before .before .before .before .before .before .before .if1 .left) (c .before .before .before .before .begin .ensures)
+returns-2 c =
+    let b = c .before .before .before .before in
+    take-begin _ _ _ _ (b .before .before .before .if1 .left) (b .begin .ensures)
 
 pub take-spec : {M : Type 1} → statement M
 take-spec =
