@@ -1,6 +1,6 @@
 -- What a merge has made by the time it stands at a place: the entries and the turns of the places below. A merge may start at a later place
 -- than the first, with `before` union places below it for which it takes no turn. Assumes nothing.
-use Prim.Native.Nat.{ℕ, suc, _+_, _≤_, _<_}
+use Prim.Native.Nat.{ℕ, _+_, _≤_, _<_}
 use native.Mathlib.Omega.{arith}
 use mathlib.Core.List.{List}
 use mathlib.Core.Path.{_≡_, refl, sym, ap₂, _∙_}
@@ -66,7 +66,8 @@ made-merged op a b k w e =
     record { count = sym (w .count); turned = e; indexes = rw (w .count) (w .indexes); values = rw (w .count) (w .values) }
 
 -- ---- the walk to the end of both: no more entries and turns than entries passed
-pub record Merging (op : Op) (before : ℕ) (a b : Vector) (oi : List ℕ) (ov : List Float) (oi′ : List ℕ) (ov′ : List Float) (p q n turns : ℕ) : Type 0 where
+pub record Merging (op : Op) (before : ℕ) (a b : Vector) (oi : List ℕ) (ov : List Float) (oi′ : List ℕ) (ov′ : List Float)
+    (p q n turns : ℕ) : Type 0 where
   pub few : n ≤ p + q
   pub steps : turns ≤ p + q
   pub going : Going a b (a .dims) (Made op before a b oi ov oi′ ov′ n turns) p q

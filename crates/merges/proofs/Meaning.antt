@@ -14,7 +14,7 @@ use Rattle.sparse.specs.Walk.{Sound}
 use Rattle.sparse.specs.declared.Cell.{Cell}
 use Rattle.sparse.specs.declared.Cell.the-variants.{Empty, Full}
 use Rattle.sparse.proofs.Meaning.{at-below, vector-valid, at-nonzero}
-use Rattle.merges.specs.Algebra.{added, subtracted, multiplied, joined, joins}
+use Rattle.merges.specs.Algebra.{joined, joins}
 use Rattle.merges.specs.declared.Op.{Op}
 use Rattle.merges.specs.declared.Op.the-variants.{Add, Sub, Mul}
 use Rattle.merges.proofs.Made.{joinAt}
