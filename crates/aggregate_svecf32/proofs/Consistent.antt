@@ -7,6 +7,7 @@ use mathlib.Core.Path.{_≡_, refl, sym}
 use lib.Dec.{leb, ltb, eqb}
 use lib.ListN.{length}
 use borrow.Author.Tests.{eqb-true, ltb-true, leb-true, lt-ltb, le-leb, not-false}
+use Rattle.places.proofs.Below.{and-true}
 use Rattle.refusal.specs.Answers.{refuse}
 use Rattle.refusal.specs.Numbers.{ROOM, STATE}
 use Rattle.refusal.specs.declared.Checked.{Checked}
@@ -19,7 +20,7 @@ use Rattle.sparse.specs.Walk.{Sound}
 use Rattle.sparse.proofs.Checks.{sound, valid}
 use Rattle.regions.specs.Capacity.{isCapacity}
 use Rattle.regions.specs.Regions.{Pair, part, inside}
-use Rattle.regions.proofs.Stands.{and-true, inside-both, both-inside, part-length}
+use Rattle.regions.proofs.Stands.{inside-both, both-inside, part-length}
 use Rattle.aggregate_svecf32.specs.States.{held, passes, begunFairly, allZero, consistent, stateOf}
 use Rattle.aggregate_svecf32.specs.declared.Header.{Header}
 

@@ -5,10 +5,9 @@ use native.Mathlib.Omega.{arith}
 use mathlib.Core.Bool.{false}
 use mathlib.Core.List.{List, []}
 use mathlib.Core.Path.{_≡_, refl, sym, ap, _∙_}
-use lib.Dec.{T, le→leb}
 use lib.ListN.{length, getD}
 use lib.IntN.{pos}
-use lib.Ieee.{Float, binary32, ofInt, div, nan, inFloat}
+use lib.Ieee.{Float, binary32, ofInt, div, nan}
 use Rattle.refusal.specs.declared.Checked.the-variants.{Valid}
 use Rattle.sparse.specs.Cells.{isZero, keep}
 use Rattle.sparse.specs.Vectors.{Vector, vector, size, at}
@@ -45,11 +44,6 @@ module _ (count : ℕ) (v : Vector) where
   shared-valid s = vector-valid (v .dims) (overAt count v) (s .low) (s .high) (λ k w h. over-nonzero count (at v k) w)
 
 -- ---- the walk
-
--- a count of rows is a float exactly
-pub count-float : (n : ℕ) → n ≤ 16777216 → T (inFloat binary32 (pos n))
-unfolding inFloat
-count-float n h = le→leb n 16777216 h
 
 -- a vector without entries
 abbrev nothing : ℕ → Vector

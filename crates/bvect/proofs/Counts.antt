@@ -3,11 +3,12 @@ use Prim.Native.Nat.{ℕ, _≤_}
 use native.Mathlib.Omega.{arith}
 use mathlib.Core.List.{List}
 use mathlib.Core.Path.{_≡_, refl, sym, _∙_}
-use lib.Dec.{T, le→leb}
+use lib.Dec.{T}
 use lib.IntN.{pos}
 use lib.Ieee.{binary32, ofBits, ofInt, inFloat}
 use Rattle.places.specs.Below.{countBelow}
 use Rattle.places.proofs.Below.{count-most}
+use Rattle.whole.proofs.Numbers.{in-float}
 use Rattle.refusal.specs.declared.Checked.the-variants.{Valid, Refused}
 use Rattle.bit.specs.Bits.{meets}
 use Rattle.bit.specs.Calls.{pairOf, Sums, SumsBoth}
@@ -20,20 +21,18 @@ use Rattle.bit.specs.declared.Counts.the-variants.{Ones as Both, Refused as NoC
 use Rattle.bit.proofs.Counted.{count-done, count-refused, counts-done, counts-refused}
 use Rattle.bit.proofs.Pairs.{pair-sound}
 
--- a count of bits is a float exactly
-small-float : (n : ℕ) → n ≤ 65535 → T (inFloat binary32 (pos n))
-unfolding inFloat
-small-float n h = le→leb n 16777216 (omega arith)
-
 -- the code's 1.0
 pub one-float : ofBits binary32 1065353216 ≡ ofInt binary32 (pos 1)
 unfolding ofBits ofInt
 one-float = refl
 
 module _ (d : ℕ) (a : List ℕ) (e : ℕ) (b : List ℕ) where
+  -- a count of bits is a float exactly
   pub count-float : (op : Op) → pairOf d a e b ≡ Valid → T (inFloat binary32 (pos (countBelow (meets op a b) d)))
   count-float op passed =
-      small-float (countBelow (meets op a b) d) (omega (arith, count-most (meets op a b) d, pair-sound d a e b passed .left .high))
+      let n = countBelow (meets op a b) d in
+      let h : n ≤ 16777216 = omega (arith, count-most (meets op a b) d, pair-sound d a e b passed .left .high) in
+      in-float binary32 (pos n) h
 
   module _ (op : Op) {r : Count} (s : Sums op d a e b r) where
     pub counted : {n : ℕ} → r ≡ Ones n → (pairOf d a e b ≡ Valid) × (n ≡ countBelow (meets op a b) d)

@@ -2,18 +2,15 @@
 use Prim.Native.Nat.{ℕ, _+_, _-_, _≤_}
 use native.Mathlib.Nat.{add-zero, zero-add}
 use native.Mathlib.Omega.{arith}
-use mathlib.Core.Bool.{Bool, true, false, _&&_, true≢false}
+use mathlib.Core.Bool.{true}
 use mathlib.Core.List.{List, [], _++_}
 use mathlib.Core.Path.{_≡_, refl, sym, ap, ap₂, _∙_}
 use lib.Dec.{leb}
 use lib.ListN.{length, take, drop, length-append, length-take, length-drop, take-append-drop}
 use lib.Seq.{length-take-le, take-append-le, drop-append-le, drop-append-add, take-at, drop-at, take-add, drop-drop}
 use borrow.Author.Tests.{leb-true, le-leb}
+use Rattle.places.proofs.Below.{and-true}
 use Rattle.regions.specs.Regions.{Pair, part, inside, Stands}
-
-pub and-true : (a b : Bool) → (a && b) ≡ true → (a ≡ true) × (b ≡ true)
-and-true true b e = (refl, e)
-and-true false b e = absurd (true≢false (sym e))
 
 pub inside-both : (start n : ℕ) (p : Pair) → inside start n p ≡ true → (start + n ≤ length (p .indexes)) × (start + n ≤ length (p .values))
 inside-both start n p e =

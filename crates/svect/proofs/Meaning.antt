@@ -2,16 +2,16 @@
 -- and values that are equal, entry by entry. Assumes nothing.
 use Prim.Native.Nat.{ℕ, _+_, _-_, _≤_, _<_}
 use native.Mathlib.Omega.{arith}
-use mathlib.Core.Bool.{Bool, true, false, not, _&&_, true≢false}
+use mathlib.Core.Bool.{Bool, true, false, not}
 use mathlib.Core.List.{List}
-use mathlib.Core.Path.{_≡_, refl, sym, ap}
+use mathlib.Core.Path.{_≡_, ap}
 use lib.Dec.{eqb}
 use lib.ListN.{length, getD}
 use lib.Seq.{ext-getD}
 use lib.Ieee.{eq}
 use borrow.Author.Tests.{eq-eqb, eqb-true, not-true, not-false}
 use Rattle.places.specs.Below.{anyBelow}
-use Rattle.places.proofs.Below.{any-false, any-none}
+use Rattle.places.proofs.Below.{and-true, any-false, any-none}
 use Rattle.refusal.specs.declared.Checked.the-variants.{Valid}
 use Rattle.sparse.specs.Calls.{checkedOf}
 use Rattle.sparse.specs.Vectors.{Vector, size, at}
@@ -31,10 +31,6 @@ module _ (v : Vector) (start end : ℕ) where
       vector-valid (end - start) (λ k. at v (start + k)) (omega arith) (omega (arith, s .high)) (λ k x m e. at-nonzero v s (start + k) x e)
 
 -- ---- equality
-
-and-true : (a b : Bool) → (a && b) ≡ true → (a ≡ true) × (b ≡ true)
-and-true true b e = (refl, e)
-and-true false b e = absurd (true≢false (sym e))
 
 module _ (a b : Vector) where
   abbrev differ : ℕ → Bool

@@ -1,13 +1,12 @@
 // Runs the call that a line names on what the line hands it.
 
-use crate::digits;
 use crate::read;
 use crate::read::Call;
-use crate::read::Shape;
 use crate::show;
 use aggregate_svecf32::Header;
 use aggregate_svecf32::Told;
-ghost use Rattle.test_aggregate.specs.Room.{Within, Inside};
+use cases::Shape;
+ghost use Rattle.cases.specs.Room.{Inside, Within};
 
 // A state none of whose places are spare.
 fn closed() -> Header {
@@ -65,10 +64,10 @@ fn run(
     match call {
         Call::Fresh => show::header(aggregate_svecf32::fresh(n[0] as usize, n[1] as usize)),
         Call::Capacity => shown::number(
-            aggregate_svecf32::capacity(digits::small(n[0]), n[1] as usize) as u64,
+            aggregate_svecf32::capacity(read::small(n[0]), n[1] as usize) as u64,
         ),
         Call::Check => shown::checked(read::header(n).check(ai, av)),
-        Call::Row => row(read::header(n), ai, av, digits::small(m[0]), bi, bv),
+        Call::Row => row(read::header(n), ai, av, read::small(m[0]), bi, bv),
         Call::Combine => combine(read::header(n), ai, av, read::header(m), bi, bv),
         Call::Move => move_to(read::header(n), ai, av, m, bi, bv),
         Call::Sum => sum(read::header(n), ai, av, bi, bv),
@@ -141,7 +140,7 @@ fn entries(
     ib: &mut [u32; 80],
     vb: &mut [f32; 80],
 )
-    requires { ⌜ Within a × Within b ⌝ }
+    requires { ⌜ Within 80 a × Within 80 b ⌝ }
 {
     parts(call, n, a, ia, va, m, b, ib, vb);
 }
@@ -173,17 +172,8 @@ fn case(s: &[u8], bar: usize, call: Call) -> bool {
 
 // Runs one line. Answers whether it is a case.
 pub fn line(s: &[u8]) -> bool {
-    if digits::byte(s, 0) == b'#' {
-        shown::text(s);
-        shown::text(b"\n");
+    if cases::comment(s) {
         return true;
     }
-    let bar = digits::find(s, 0, b'|');
-    shown::text(&s[0..bar]);
-    shown::text(b"|");
-    if !case(s, bar, read::named(s)) {
-        return false;
-    }
-    shown::text(b"\n");
-    true
+    cases::ended(case(s, cases::label(s), read::named(s)))
 }

@@ -1,6 +1,5 @@
 // Prints headers, what a call on a state answers, and what it left in two lists.
 
-use crate::read;
 use aggregate_svecf32::Header;
 use aggregate_svecf32::Told;
 
@@ -55,7 +54,7 @@ fn index(i: u32) {
 
 // An entry, or `.` for what `.` stands for.
 fn entry(i: u32, v: f32) {
-    if i == read::DOT_INDEX && v == read::DOT_VALUE {
+    if i == cases::DOT_INDEX && v == cases::DOT_VALUE {
         shown::text(b" .");
         return;
     }

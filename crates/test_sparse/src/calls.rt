@@ -2,16 +2,14 @@
 // and part write to lent lists.
 
 use crate::read;
-use crate::read::Shape;
 use crate::read::Tail;
 use crate::show;
+use cases::Shape;
 use refusal::Bound;
-ghost use Rattle.test_sparse.specs.Room.{Within};
+ghost use Rattle.cases.specs.Room.{Inside};
 
-// What the lent lists are filled with before a call; the bits of both are eeeeeeee.
-const INDEX: u32 = 4008636142;
-
-const VALUE: f32 = -36973140302885665537819410432.0;
+// How long a lent list is at most.
+const ROOM: usize = 16;
 
 // The calls that write to lent lists. Answers whether the letter is one of theirs.
 fn write(
@@ -53,16 +51,16 @@ fn lend(
 ) -> bool {
     let n = rest.indexes;
     let m = rest.values;
-    if read::ROOM < n {
+    if ROOM < n {
         return false;
     }
-    if read::ROOM < m {
+    if ROOM < m {
         return false;
     }
     let from = rest.from;
     let to = rest.to;
-    let mut oi = [INDEX; 16];
-    let mut ov = [VALUE; 16];
+    let mut oi = [cases::DOT_INDEX; 16];
+    let mut ov = [cases::DOT_VALUE; 16];
     if !write(
         call,
         dims_a,
@@ -107,68 +105,69 @@ fn run(
     true
 }
 
-// Runs a call on the entries that a line has.
+// Runs a call on the entries that a line has, which stand in front of these lists.
 fn entries(
     call: u8,
+    dims_a: u32,
     a: Shape,
-    ia: &[u32; 16],
-    va: &[f32; 16],
+    ia: &[u32],
+    va: &[f32],
+    dims_b: u32,
     b: Shape,
-    ib: &[u32; 16],
-    vb: &[f32; 16],
+    ib: &[u32],
+    vb: &[f32],
     rest: Tail,
 ) -> bool
-    requires { ⌜ Within a × Within b ⌝ }
+    requires { ⌜ Inside a (now ia) (now va) × Inside b (now ib) (now vb) ⌝ }
 {
     let na = a.indexes;
     let ma = a.values;
     let nb = b.indexes;
     let mb = b.values;
-    let xa = &ia[..];
-    let ya = &va[..];
-    let xb = &ib[..];
-    let yb = &vb[..];
     run(
         call,
-        a.dims,
-        &xa[0..na],
-        &ya[0..ma],
-        b.dims,
-        &xb[0..nb],
-        &yb[0..mb],
+        dims_a,
+        &ia[0..na],
+        &va[0..ma],
+        dims_b,
+        &ib[0..nb],
+        &vb[0..mb],
         rest,
     )
 }
 
 // Reads what follows a label, and runs the call on it. Answers whether it is a case.
 fn case(s: &[u8], bar: usize, call: u8) -> bool {
+    let dims_a = read::dims(s, bar);
     let mut ia = [0u32; 16];
     let mut va = [0.0f32; 16];
-    let a = read::vector(s, bar, &mut ia, &mut va);
+    let a = cases::entries(s, dims_a.at, &mut ia, &mut va);
+    let dims_b = read::dims(s, a.at);
     let mut ib = [0u32; 16];
     let mut vb = [0.0f32; 16];
-    let b = read::vector(s, a.at, &mut ib, &mut vb);
+    let b = cases::entries(s, dims_b.at, &mut ib, &mut vb);
     let rest = read::rest(s, b.at);
     if rest.at != s.len() {
         return false;
     }
-    entries(call, a, &ia, &va, b, &ib, &vb, rest)
+    entries(
+        call,
+        dims_a.value,
+        a,
+        &ia,
+        &va,
+        dims_b.value,
+        b,
+        &ib,
+        &vb,
+        rest,
+    )
 }
 
 // Runs one line. Answers whether it is a case.
 pub fn line(s: &[u8]) -> bool {
-    let call = read::byte(s, 0);
-    if call == b'#' {
-        shown::text(s);
-        shown::text(b"\n");
+    if cases::comment(s) {
         return true;
     }
-    let bar = read::find(s, 0, b'|');
-    shown::text(&s[0..bar]);
-    shown::text(b"|");
-    if !case(s, bar, call) {
-        return false;
-    }
-    shown::text(b"\n");
-    true
+    cases::ended(case(s, cases::label(s), cases::byte(s, 0)))
 }

@@ -3,11 +3,10 @@
 //     add P1 | 8 1:3f800000 4:c0000000 | 8 4:40000000 6:3f000000 | [4 4]
 //     part P6 | 8 1:3f800000 4:c0000000 | =4 * | [1 1]
 //
-// It has the call and a label; one vector or two, each its dims and then its entries; for a slice its two
-// bounds; and the lengths of the two lent lists. `5:` is an index without a value and `:3f800000` a value
-// without an index. `=4` is Included 4, `!4` is Excluded 4, and `*` is Unbounded. A value is the eight digits
-// of its bits, and every NaN is one and the same. A vector has at most 16 indexes and 16 values, and a lent
-// list at most 16 places. A line that starts with `#` is printed as it is.
+// It has the call and a label; one vector or two, each its dims and then its entries, as `cases` reads them;
+// for a slice its two bounds; and the lengths of the two lent lists. `=4` is Included 4, `!4` is Excluded 4, and
+// `*` is Unbounded. A vector has at most 16 indexes and 16 values, and a lent list at most 16 places. Before the
+// call, a lent list has what `.` stands for at every place.
 mod calls;
 mod read;
 mod show;
@@ -16,13 +15,8 @@ mod show;
 fn lines(s: &[u8]) {
     let mut at: usize = 0;
     while at < s.len() {
-        let end = read::find(s, at, b'\n');
-        if s.len() <= end {
-            shown::text(b"the last line does not end\n");
-            return;
-        }
+        let end = cases::find(s, at, b'\n');
         if !calls::line(&s[at..end]) {
-            shown::text(b" this is no case\n");
             return;
         }
         at = end + 1;
@@ -30,7 +24,7 @@ fn lines(s: &[u8]) {
 }
 
 fn main() {
-    let mut space = io::large_buffer();
-    let n = io::read_full(libc::STDIN_FILENO, &mut space);
+    let mut space = cases::room();
+    let n = cases::input(&mut space);
     lines(&space[..n]);
 }

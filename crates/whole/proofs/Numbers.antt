@@ -7,7 +7,7 @@ use mathlib.Core.Bool.{Bool, true, false, not, cond, _&&_, true≢false}
 use mathlib.Core.Path.{_≡_, refl, sym, ap, _∙_}
 use lib.Dec.{T, leb, ltb, eqb, leb→le, le→leb, lt→ltb, eqb→eq, eqb·suc-zero, lit<}
 use lib.IntN.{ℤ, pos, negsuc, negℤ, natAbs}
-use lib.Ieee.{Float, nan, inf, fin, Format, binary32, binary64, prec, up, down, ofInt, ofBits, toSigned, inSigned, fits, whole}
+use lib.Ieee.{Float, nan, inf, fin, Format, binary32, binary64, prec, up, down, ofInt, ofBits, toSigned, inSigned, inFloat, fits, whole}
 use lib.Ieee.Fits.{and-i, and-l, and-r, down-pos, ofInt-fits}
 use lib.Ieee.Exact.{HasValue}
 use lib.Ieee.Back.{float-back-signed}
@@ -84,6 +84,12 @@ plain-of-whole f (inf s) t = t
 plain-of-whole f (fin s m e) t = and-l (plain f (fin s m e)) (not (s && eqb m 0)) t
 
 -- ---- an integer, as a float and back
+
+-- up to 2 ^ prec it may be cast
+pub in-float : (f : Format) (z : ℤ) → natAbs z ≤ 2 ^ prec f → T (inFloat f z)
+unfolding inFloat
+in-float f (pos n) h = le→leb n (2 ^ prec f) h
+in-float f (negsuc n) h = lt→ltb n (2 ^ prec f) h
 
 -- the cast of an integer's float is the integer
 pub number-of : (f : Format) (z : ℤ) → natAbs z ≤ 2 ^ prec f → number (ofInt f z) ≡ z

@@ -3,9 +3,12 @@
 use Prim.Native.Nat.{_-_}
 use native.Mathlib.Omega.{arith}
 use lib.ListN.{length}
+use lib.IntN.{pos}
+use lib.Ieee.{binary32}
 use borrow.Author.Needs.{needs}
+use Rattle.whole.proofs.Numbers.{in-float}
 use Rattle.sparse.specs.Vectors.{vector}
-use Rattle.aggregate_svecf32.proofs.Shares.{count-float, Dividing, dividing-start, dividing-lengths}
+use Rattle.aggregate_svecf32.proofs.Shares.{Dividing, dividing-start, dividing-lengths}
 use Rattle.aggregate_svecf32.proofs.Shares.{dividing-fits, dividing-more, dividing-done}
 use Rattle.aggregate_svecf32.proofs.writing.divide.Statement.{statement}
 use Rattle.aggregate_svecf32.proofs.writing.divide.Tie as tie
@@ -20,7 +23,7 @@ abbrev start : tie.At-loop Inv-loop μ-loop → tie.Start Inv-loop μ-loop
 start c = c .before .before .before .before .before .before
 
 int-to-float-by : tie.Need-int-to-float-by Inv-loop μ-loop
-int-to-float-by c = let s = c .before .before .before .before .before in count-float (s .args .count) (s .pre .most)
+int-to-float-by c = let s = c .before .before .before .before .before in in-float binary32 (pos (s .args .count)) (s .pre .most)
 
 loop-holds : tie.Need-loop-holds Inv-loop μ-loop
 loop-holds c = dividing-start

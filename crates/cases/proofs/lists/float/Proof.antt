@@ -6,8 +6,8 @@ use lib.Dec.{T}
 use lib.Ieee.{binary32, nanBits}
 use borrow.Author.Needs.{needs}
 use borrow.Author.Tests.{ne-eqb, eq-eqb}
-use Rattle.test_aggregate.proofs.read.float.Statement.{statement}
-use Rattle.test_aggregate.proofs.read.float.Tie as tie
+use Rattle.cases.proofs.lists.float.Statement.{statement}
+use Rattle.cases.proofs.lists.float.Tie as tie
 
 by-exponent : (p : ℕ) → (p % 2147483648 / 8388608 ≡ 255 → ⊥) → T (not (nanBits binary32 p))
 unfolding nanBits

@@ -3,14 +3,14 @@ use Prim.Native.Nat.{_≤_, _-_}
 use borrow.Author.Needs.{needs}
 use native.Mathlib.Omega.{arith}
 use lib.ListN.{length}
-use Rattle.test_sparse.proofs.read.number.Statement.{statement}
-use Rattle.test_sparse.proofs.read.number.Tie as tie
+use Rattle.cases.proofs.number.Statement.{statement}
+use Rattle.cases.proofs.number.Tie as tie
 
 abbrev Inv-loop : tie.InvT-loop
-Inv-loop s from base value₀ at₀ value at = from ≤ at
+Inv-loop s from is_hex value₀ at₀ value at = from ≤ at
 
 abbrev μ-loop : tie.MeasureT-loop
-μ-loop s from base value₀ at₀ value at = length s - at
+μ-loop s from is_hex value₀ at₀ value at = length s - at
 
 loop-holds : tie.Need-loop-holds Inv-loop μ-loop
 loop-holds c = omega arith
@@ -21,8 +21,11 @@ shared-slice-read-more c = omega arith
 more-requires : tie.Need-more-requires Inv-loop μ-loop
 more-requires c κs = search needs
 
-cast-value : tie.Need-cast-value Inv-loop μ-loop
-cast-value c = omega arith
+enum-known-m : tie.Need-enum-known-m Inv-loop μ-loop
+enum-known-m c = search needs
+
+enum-told : tie.Need-enum-told Inv-loop μ-loop
+enum-told c = search needs
 
 add-at : tie.Need-add-at Inv-loop μ-loop
 add-at c = omega arith
@@ -48,7 +51,8 @@ number-spec =
     loop-holds
     shared-slice-read-more
     more-requires
-    cast-value
+    enum-known-m
+    enum-told
     add-at
     loop-less
     loop-again

@@ -3,8 +3,8 @@
 use Prim.Native.Nat.{_≤_, _-_}
 use native.Mathlib.Omega.{arith}
 use lib.ListN.{length}
-use Rattle.test_aggregate.proofs.digits.find.Statement.{statement}
-use Rattle.test_aggregate.proofs.digits.find.Tie as tie
+use Rattle.cases.proofs.find.Statement.{statement}
+use Rattle.cases.proofs.find.Tie as tie
 
 abbrev Inv-loop : tie.InvT-loop
 Inv-loop s from c at₀ at = (from ≤ at) × (at ≤ length s)

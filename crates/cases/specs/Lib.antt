@@ -1,0 +1,2 @@
+-- The definitions that the contracts of `cases` cite.
+pub mod Room
