@@ -77,12 +77,6 @@ module _ {count : ℕ} {v : Vector} {oi : List ℕ} {ov : List Float} (r : Divid
       let h = d .going .walk .left .within in
       written-lengths (d .going .holds) (omega (arith, d .few, r .room)) (omega (arith, d .few, r .room′))
 
-  -- the entry p is there in all lists
-  pub dividing-fits : p < size v → (p < length (v .values)) × (n < length oi′) × (n < length ov′)
-  dividing-fits h =
-      let e = dividing-lengths in
-      (omega (arith, r .sound .even), omega (arith, d .few, r .room, e .0), omega (arith, d .few, r .room′, e .1))
-
   -- one entry more
   pub dividing-more : p < size v → {z : Cell} {n′ : ℕ} {oi″ : List ℕ} {ov″ : List Float}
       → z ≡ keep (div binary32 (getD (v .values) p nan) (ofInt binary32 (pos count)))

@@ -62,7 +62,9 @@ pub record Acts (h : Header) (due : Checked) (d : Deed) (p : Pair) (r : Told) (q
 
 -- ---- a vector comes to a state: a row, with count 1, or the entries of a second state, with its count
 
--- "a first row begins the state with the capacity for its length"; "ROOM for a region .. too short" carries the capacity
+-- "a first row begins the state with the capacity for its length and count 1"; of a combine "First not begun: it takes the second's dims,
+-- count and entries, with the capacity for its length and len turns." "ROOM for a region .. too short" carries the capacity. That a first
+-- row's turns are as many as its entries is document 01's rule for turns, with no entry in the state (`first-turns`, in_place/proofs/First)
 abbrev pub beginOf : Header → Vector → Checked
 beginOf h v = let capacity = capacityFor (v .dims) (size v) in refuse (ltb (h .length) capacity) ROOM capacity Valid
 

@@ -72,11 +72,8 @@ fn merge(
         return Told::Refused(h, refusal::COUNT, 0);
     }
     if !has_room(h, bi.len()) {
-        return Told::Refused(
-            h,
-            refusal::NEED,
-            regions::capacity(h.dims, h.len + bi.len()),
-        );
+        let wanted = regions::capacity(h.dims, h.len + bi.len());
+        return Told::Refused(h, refusal::NEED, wanted);
     }
     let start = h.start;
     let end = start + h.length;
@@ -89,10 +86,8 @@ fn merge(
         bi,
         bv,
     );
-    Told::Done(
-        states::begun(h.start, h.length, dims, m.len, h.capacity, count),
-        m.turns,
-    )
+    let new = states::begun(h.start, h.length, dims, m.len, h.capacity, count);
+    Told::Done(new, m.turns)
 }
 
 // The state takes the entries in, and its count rises by `more`.

@@ -1,23 +1,25 @@
 -- Where a row begins: the entries of the state below its first index stay, and no turn is taken for them. Assumes nothing.
-use Prim.Native.Nat.{ℕ, suc, _+_, _≤_, _<_}
+use Prim.Native.Nat.{ℕ, zero, suc, _+_, _≤_, _<_}
 use native.Mathlib.Omega.{arith}
 use mathlib.Core.Bool.{Bool, _&&_}
 use mathlib.Core.List.{List, [], _∷_, _++_}
-use mathlib.Core.Path.{_≡_, refl, sym, ap, _∙_}
+use mathlib.Core.Logic.{⊎-elim}
+use mathlib.Core.Path.{_≡_, refl, sym, ap, ap₂, _∙_}
 use lib.Dec.{leb}
-use lib.ListN.{length, getD, take, drop, take-append-drop}
+use lib.ListN.{length, getD, take, drop, length-append, take-append-drop}
 use lib.Seq.{length-take-le}
 use lib.Ieee.{Float}
 use borrow.Author.Tests.{le-leb, lt-leb}
-use Rattle.places.specs.Below.{countBelow}
-use Rattle.places.proofs.Below.{count-zero, count-rest}
-use Rattle.sparse.specs.Vectors.{Vector, at, inUnion}
+use Rattle.places.specs.Below.{one, countBelow}
+use Rattle.places.proofs.Below.{le-or-lt, count-zero, count-rest, count-same}
+use Rattle.sparse.specs.Cells.{full, look, indexOf, indexesBelow}
+use Rattle.sparse.specs.Vectors.{Vector, vector, size, at, inUnion}
 use Rattle.sparse.specs.Walk.{Split, Sound}
 use Rattle.sparse.specs.declared.Cell.{Cell}
 use Rattle.sparse.specs.declared.Cell.the-variants.{Empty, Full}
 use Rattle.sparse.proofs.Entries.{Written, entries-same}
 use Rattle.sparse.proofs.Look.{look-gap, split-start, split-on}
-use Rattle.sparse.proofs.Slices.{front}
+use Rattle.sparse.proofs.Slices.{front, rebuilt}
 use Rattle.sparse.proofs.Walk.{kept-up}
 use Rattle.merges.specs.Algebra.{added}
 use Rattle.merges.specs.declared.Op.the-variants.{Add}
@@ -86,6 +88,29 @@ count-from t f d le = kept-up P f d le step start
 
     step : (i : ℕ) → f ≤ i → i < d → P i → P (suc i)
     step i a b h = rw (le-leb f i a) (omega arith)
+
+-- as many places are full as there are entries
+count-full : (f : ℕ → Cell) (n : ℕ) → countBelow (λ k. full (f k)) n ≡ length (indexesBelow f n)
+unfolding countBelow indexesBelow
+count-full f zero = refl
+count-full f (suc n) = simp length-append (ap₂ _+_ (count-full f n) (each (f n)))
+  where
+    each : (z : Cell) → one (full z) ≡ length (indexOf z n)
+    each Empty = refl
+    each (Full v) = refl
+
+-- where the state has no entry the turns are the row's entries
+pub first-turns : (v : Vector) → Sound v → rowTurns (vector (v .dims) [] []) v ≡ size v
+unfolding look
+first-turns v s =
+    count-same (λ k. leb (firstIndex v) k && inUnion (vector (v .dims) [] []) v k) (λ k. full (at v k)) (v .dims)
+    (λ k h.
+    ⊎-elim
+    (λ l. rw (le-leb (firstIndex v) k l))
+    (λ l. rw (lt-leb (firstIndex v) k l, first-gap v s k l))
+    (le-or-lt (firstIndex v) k))
+    ∙ count-full (at v) (v .dims)
+    ∙ sym (ap size (rebuilt v s))
 
 pub turns-from : (a b : Vector) → firstIndex b ≤ a .dims → (turns : ℕ)
     → countBelow (inUnion a b) (firstIndex b) + turns ≡ countBelow (inUnion a b) (a .dims) → turns ≡ rowTurns a b

@@ -26,8 +26,8 @@ within start n indexes values = leb (start + n) indexes && leb (start + n) value
 abbrev pub inside : ℕ → ℕ → Pair → Bool
 inside start n p = within start n (length (p .indexes)) (length (p .values))
 
--- The list `new` is `old`, but that xs stands from `start` on, and that the first `room` places from there on may have changed. So what is
--- left open is the places after xs and within the room; where xs fills the room nothing is.
+-- "Outside the region, and inside it from the capacity on, nothing changes." The list `new` is `old`, but that xs stands from `start` on, and
+-- that the first `room` places from there on may have changed. So what is left open is the places after xs and within the room; where xs fills the room nothing is.
 pub record Stands {ℓ} {A : Type ℓ} (start room : ℕ) (xs old new : List A) : Type ℓ where
   pub long : length new ≡ length old
   pub before : take start new ≡ take start old

@@ -51,10 +51,7 @@ fn lend(
 ) -> bool {
     let n = rest.indexes;
     let m = rest.values;
-    if ROOM < n {
-        return false;
-    }
-    if ROOM < m {
+    if ROOM < n || ROOM < m {
         return false;
     }
     let from = rest.from;

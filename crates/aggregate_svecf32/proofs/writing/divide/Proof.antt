@@ -9,7 +9,7 @@ use borrow.Author.Needs.{needs}
 use Rattle.whole.proofs.Numbers.{in-float}
 use Rattle.sparse.specs.Vectors.{vector}
 use Rattle.aggregate_svecf32.proofs.Shares.{Dividing, dividing-start, dividing-lengths}
-use Rattle.aggregate_svecf32.proofs.Shares.{dividing-fits, dividing-more, dividing-done}
+use Rattle.aggregate_svecf32.proofs.Shares.{dividing-more, dividing-done}
 use Rattle.aggregate_svecf32.proofs.writing.divide.Statement.{statement}
 use Rattle.aggregate_svecf32.proofs.writing.divide.Tie as tie
 
@@ -33,8 +33,7 @@ mul-kept c = search needs
 
 shared-slice-read-kept : tie.Need-shared-slice-read-kept Inv-loop μ-loop
 shared-slice-read-kept c =
-    let l = c .before .before in
-    dividing-fits (start l .pre) (l .loop .inv) (omega arith) .0
+    omega (arith, start (c .before .before) .pre .sound .even)
 
 kept-requires : tie.Need-kept-requires Inv-loop μ-loop
 kept-requires c κs = search needs
@@ -48,8 +47,9 @@ shared-slice-read-put c = search needs
 put-requires : tie.Need-put-requires Inv-loop μ-loop
 put-requires c κs =
     let l = c .before .before .before .before .before .before in
-    let f = dividing-fits (start l .pre) (l .loop .inv) (omega arith) in
-    (f .1, f .2)
+    let r = start l .pre in
+    let e = dividing-lengths r (l .loop .inv) in
+    (omega (arith, l .loop .inv .few, r .room, e .0), omega (arith, l .loop .inv .few, r .room′, e .1))
 
 add-p : tie.Need-add-p Inv-loop μ-loop
 add-p c = search needs
