@@ -1,0 +1,114 @@
+-- Rows dealt to states: what a run is. A run is any finite sequence of steps, over any number of pairs of lists and of states. Each step that
+-- calls does anything that the promise of that call permits (`Rows`, `Combines`, `Moves` of crates/aggregate_svecf32/specs/Calls.antt),
+-- refusals and open entries included. In quotes is the sentence that the theorem stands for; docs/PROMISES.md has it whole.
+use Prim.Native.Nat.{ℕ, _+_, _≤_}
+use mathlib.Core.List.{List, [], _∷_}
+use mathlib.Core.Logic.{_⊎_}
+use mathlib.Core.Path.{_≡_}
+use Rattle.sparse.specs.Vectors.{Vector}
+use Rattle.regions.specs.Regions.{Pair, part}
+use Rattle.aggregate_svecf32.specs.States.{fresh}
+use Rattle.aggregate_svecf32.specs.Calls.{Rows, Combines, Moves}
+use Rattle.aggregate_svecf32.specs.declared.Header.{Header}
+use Rattle.aggregate_svecf32.specs.declared.Told.{Told}
+use Rattle.aggregate_svecf32.specs.declared.Told.the-variants.{Done, Refused}
+
+-- ---- lists and states
+
+-- the pairs of lists, by number
+abbrev pub Store : Type 0
+Store = ℕ → Pair
+
+-- a state: the number of the pair that it lies in, and its header
+pub record State : Type 0 where
+  pub lists : ℕ
+  pub header : Header
+
+abbrev pub state : ℕ → Header → State
+state p h = record { lists = p; header = h }
+
+-- s is one of these states, and the rest are the others
+pub data Pick (s : State) : List State → List State → Type 0 where
+  here : {ss : List State} → Pick s (s ∷ ss) ss
+  there : {t : State} {ss rest : List State} → Pick s ss rest → Pick s (t ∷ ss) (t ∷ rest)
+
+abbrev pub Each : (State → Type 0) → List State → Type 0
+Each P [] = Unit {0}
+Each P (s ∷ ss) = P s × Each P ss
+
+-- "regions that .. never overlap": the region of s does not overlap n places from `start` on in the pair p
+abbrev pub Clear : ℕ → ℕ → ℕ → State → Type 0
+Clear p start n s = s .lists ≡ p → (start + n ≤ s .header .start) ⊎ (s .header .start + s .header .length ≤ start)
+
+-- "nothing else writes" the region of s
+abbrev pub Kept : Store → Store → State → Type 0
+Kept m m′ s =
+    let h = s .header in
+    (part (h .start) (h .length) (m′ (s .lists) .indexes) ≡ part (h .start) (h .length) (m (s .lists) .indexes))
+    × (part (h .start) (h .length) (m′ (s .lists) .values) ≡ part (h .start) (h .length) (m (s .lists) .values))
+
+-- a call that is lent the pair p to write changes no other
+abbrev pub Only : ℕ → Store → Store → Type 0
+Only p m m′ = (q : ℕ) → (q ≡ p → ⊥) → m′ q ≡ m q
+
+-- ---- what an answer does
+
+-- "go on from each header handed back"
+abbrev pub handed : Told → Header
+handed (Done h turns) = h
+handed (Refused h n c) = h
+
+-- the rows taken in: a refused row is none of them, and is to come again ("with every refused step made good")
+abbrev pub taken : Told → Vector → List Vector → List Vector
+taken (Done h turns) v rows = v ∷ rows
+taken (Refused h n c) v rows = rows
+
+-- "combine each state away once, unfed after that": b is gone, unless that was refused
+abbrev pub remain : Told → State → List State → List State
+remain (Done h turns) b rest = rest
+remain (Refused h n c) b rest = b ∷ rest
+
+-- where a state lies after it was to move from the pair p to the pair q
+abbrev pub liesIn : Told → ℕ → ℕ → ℕ
+liesIn (Done h turns) p q = q
+liesIn (Refused h n c) p q = p
+
+-- ---- runs
+
+-- Run m ss rows: the steps have led to the lists m and the states ss, and the states took in these rows, the last one first
+pub data Run : Store → List State → List Vector → Type 0 where
+  -- at first there are lists, and no state
+  start : (m : Store) → Run m [] []
+
+  -- anything may be written where no state lies
+  elsewhere : {m : Store} {ss : List State} {rows : List Vector} → Run m ss rows
+      → (m′ : Store) → Each (Kept m m′) ss
+      → Run m′ ss rows
+
+  -- "any number of fresh states", each in a region that overlaps no other
+  begin : {m : Store} {ss : List State} {rows : List Vector} → Run m ss rows
+      → (p at n : ℕ) → Each (Clear p at n) ss
+      → Run m (state p (fresh at n) ∷ ss) rows
+
+  -- "Deal each row to one of .. [the] states .. feed them in any order"
+  feed : {m : Store} {ss : List State} {rows : List Vector} → Run m ss rows
+      → (s : State) (rest : List State) → Pick s ss rest
+      → (v : Vector) (t : Told) (m′ : Store) → Only (s .lists) m m′
+      → Rows (s .header) (m (s .lists)) v t (m′ (s .lists))
+      → Run m′ (state (s .lists) (handed t) ∷ rest) (taken t v rows)
+
+  -- "combine .. in any tree .., two that meet lying in different lists": b into a
+  meet : {m : Store} {ss : List State} {rows : List Vector} → Run m ss rows
+      → (a : State) (others : List State) → Pick a ss others
+      → (b : State) (rest : List State) → Pick b others rest → (a .lists ≡ b .lists → ⊥)
+      → (t : Told) (m′ : Store) → Only (a .lists) m m′
+      → Combines (a .header) (m (a .lists)) (b .header) (m (b .lists)) t (m′ (a .lists))
+      → Run m′ (state (a .lists) (handed t) ∷ remain t b rest) rows
+
+  -- "move states that answer NEED", to regions in other lists that overlap no other
+  carry : {m : Store} {ss : List State} {rows : List Vector} → Run m ss rows
+      → (s : State) (rest : List State) → Pick s ss rest
+      → (more p at n : ℕ) → Each (Clear p at n) rest → (p ≡ s .lists → ⊥)
+      → (t : Told) (m′ : Store) → Only p m m′
+      → Moves (s .header) (m (s .lists)) more (m p) at n t (m′ p)
+      → Run m′ (state (liesIn t (s .lists) p) (handed t) ∷ rest) rows
