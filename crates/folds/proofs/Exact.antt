@@ -15,28 +15,19 @@ use Rattle.whole.proofs.Numbers as numbers
 use Rattle.whole.proofs.Numbers.{integral-holds}
 use Rattle.sparse.specs.Cells.{zero32, look, foldBelow}
 use Rattle.sparse.specs.Vectors.{Vector, at}
+use Rattle.sparse.specs.Numbers.{Whole, numberAt}
 use Rattle.sparse.specs.declared.Cell.{Cell}
 use Rattle.sparse.specs.declared.Cell.the-variants.{Empty, Full}
+use Rattle.sparse.proofs.Numbers.{Passing, passing-at}
 use Rattle.folds.specs.Sums.{dense, stepOf, sumOf, dotOf}
-use Rattle.folds.specs.Exact.{Whole, numberAt, termOf, termAt, totalBelow, weightBelow}
+use Rattle.folds.specs.Exact.{termOf, termAt, totalBelow, weightBelow}
 use Rattle.folds.specs.declared.Kind.{Kind}
 use Rattle.folds.specs.declared.Kind.the-variants.{Product, Difference}
 
 -- ---- what stands at a place of a vector of whole numbers
 
 abbrev Fair : Cell → Type 0
-Fair Empty = Unit
-Fair (Full v) = T (integral v)
-
-fair-look : (is : List ℕ) (vs : List Float) → ((j : ℕ) → j < length is → T (integral (getD vs j nan))) → (k : ℕ) → Fair (look is vs k)
-unfolding look
-fair-look [] vs all k = tt
-fair-look (i ∷ is) [] all k = tt
-fair-look (i ∷ is) (v ∷ vs) all k = go (eqb i k) (all zero (omega arith)) (fair-look is vs (λ j h. all (suc j) (omega arith)) k)
-  where
-    go : (b : Bool) → T (integral v) → Fair (look is vs k) → Fair (cond b (Full v) (look is vs k))
-    go true t r = t
-    go false t r = r
+Fair = Passing integral
 
 zero-holds : Holds zero32 (pos 0)
 zero-holds = rw numbers.zero32 (holds-ofInt binary32 (pos 0) (omega arith))
@@ -44,7 +35,7 @@ zero-holds = rw numbers.zero32 (holds-ofInt binary32 (pos 0) (omega arith))
 -- "Absent means zero."
 fair-holds : (x : Cell) → Fair x → Holds (dense x) (numberAt x)
 fair-holds Empty t = zero-holds
-fair-holds (Full v) t = integral-holds v t
+fair-holds (Full v) t = integral-holds v (t v refl)
 
 -- ---- one step
 
@@ -71,7 +62,7 @@ step-exact : (kind : Kind) (z : ℤ) (x y : Cell) → Fair x → Fair y → natA
     → stepOf kind (ofInt binary32 z) x y ≡ ofInt binary32 (z +ℤ termOf kind (numberAt x) (numberAt y))
 step-exact Product z Empty y fx fy hz ht = adds-nothing z (pos 0 *ℤ numberAt y) (omega (arith, size-mul (pos 0) (numberAt y)))
 step-exact Product z (Full a) Empty fx fy hz ht = adds-nothing z (integer a *ℤ pos 0) (omega (arith, size-mul (integer a) (pos 0)))
-step-exact Product z (Full a) (Full b) fx fy hz ht = add-exact binary32 z hz (holds-mul binary32 ht (integral-holds a fx) (integral-holds b fy))
+step-exact Product z (Full a) (Full b) fx fy hz ht = add-exact binary32 z hz (holds-mul binary32 ht (integral-holds a (fx a refl)) (integral-holds b (fy b refl)))
 step-exact Difference z Empty Empty fx fy hz ht = adds-nothing z (pos 0) refl
 step-exact Difference z Empty (Full b) fx fy hz ht = add-square z Empty (Full b) fx fy hz ht
 step-exact Difference z (Full a) y fx fy hz ht = add-square z (Full a) y fx fy hz ht
@@ -86,7 +77,7 @@ module _ (kind : Kind) (a b : Vector) (wa : Whole a) (wb : Whole b) where
   fold-exact (suc n) h =
       rw (fold-exact n (omega arith))
       (step-exact kind (totalBelow (termAt kind a b) n) (at a n) (at b n)
-      (fair-look (a .indexes) (a .values) wa n) (fair-look (b .indexes) (b .values) wb n)
+      (passing-at integral a wa n) (passing-at integral b wb n)
       (omega (arith, total-le (termAt kind a b) n)) (omega arith))
 
   -- the sum over all places is the whole number's float

@@ -1,25 +1,11 @@
--- Where dot and L2 are exact: "where values are whole and the terms' magnitudes sum to at most 16,777,216". Here are those whole numbers,
--- their terms and the sums of them.
-use Prim.Native.Nat.{ℕ, zero, suc, _+_, _<_}
-use lib.Dec.{T}
+-- Where dot and L2 are exact: "where values are whole and the terms' magnitudes sum to at most 16,777,216". Here are the terms of
+-- those whole numbers (crates/sparse/specs/Numbers.antt) and the sums of them.
+use Prim.Native.Nat.{ℕ, zero, suc, _+_}
 use lib.IntN.{ℤ, pos, natAbs, _+ℤ_, _-ℤ_, _*ℤ_}
-use lib.ListN.{getD}
-use lib.Ieee.{nan}
-use Rattle.whole.specs.Whole.{integral, integer}
-use Rattle.sparse.specs.Vectors.{Vector, size, at}
-use Rattle.sparse.specs.declared.Cell.{Cell}
-use Rattle.sparse.specs.declared.Cell.the-variants.{Empty, Full}
+use Rattle.sparse.specs.Vectors.{Vector, at}
+use Rattle.sparse.specs.Numbers.{numberAt}
 use Rattle.folds.specs.declared.Kind.{Kind}
 use Rattle.folds.specs.declared.Kind.the-variants.{Product, Difference}
-
--- every value is a whole number
-abbrev pub Whole : Vector → Type 0
-Whole v = (j : ℕ) → j < size v → T (integral (getD (v .values) j nan))
-
--- the whole number at a place; "Absent means zero."
-abbrev pub numberAt : Cell → ℤ
-numberAt Empty = pos 0
-numberAt (Full v) = integer v
 
 -- what a place adds: a product, or a squared difference
 abbrev pub termOf : Kind → ℤ → ℤ → ℤ

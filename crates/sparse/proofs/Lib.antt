@@ -5,6 +5,7 @@ pub mod Checks
 pub mod Look
 pub mod Entries
 pub mod Meaning
+pub mod Numbers
 pub mod Turns
 pub mod Walk
 pub mod Writes

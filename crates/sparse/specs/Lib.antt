@@ -3,3 +3,4 @@ pub mod Cells
 pub mod Vectors
 pub mod Calls
 pub mod Walk
+pub mod Numbers

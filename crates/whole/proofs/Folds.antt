@@ -5,14 +5,14 @@ use native.Mathlib.Nat.{zero-lt-suc, ℕ-set}
 use native.Mathlib.Omega.{arith}
 use mathlib.Core.Bool.{Bool, true, _&&_, and-assoc, and-comm, Bool-set}
 use mathlib.Core.List.{List, [], _∷_, _++_, map, map-append, Perm, Perm·map, Perm·foldr-eq}
-use mathlib.Core.Path.{_≡_, sym, ap, _∙_}
+use mathlib.Core.Path.{_≡_, refl, sym, ap, _∙_}
 use lib.Dec.{T}
 use lib.ListN.{length, getD}
 use lib.IntN.{ℤ, pos, natAbs, _+ℤ_, +ℤ-idl, +ℤ-idr, +ℤ-assoc, +ℤ-comm, ℤ-set}
 use lib.Ieee.{Float, Format, prec, ofInt}
 use lib.Ieee.Fits.{and-i, and-l, and-r}
 use Rattle.whole.specs.Whole.{number, plain, Holds}
-use Rattle.whole.specs.Sums.{sumℤ, weight, sumFrom, Tree, none, one, join, total, leaves, allPlain}
+use Rattle.whole.specs.Sums.{sumℤ, weight, sumFrom, Tree, none, one, join, total, leaves, all, allPlain}
 use Rattle.whole.proofs.Sizes.{size-add}
 use Rattle.whole.proofs.Holds.{holds-ofInt, holds-add, add-exact}
 use Rattle.whole.proofs.Numbers.{plain-holds}
@@ -49,25 +49,23 @@ perm-sum p = Perm·foldr-eq ℤ-set _+ℤ_ (λ a b c. sym (+ℤ-assoc a b c) ∙
 pub perm-weight : {xs ys : List ℤ} → Perm xs ys → weight xs ≡ weight ys
 perm-weight p = Perm·foldr-eq ℕ-set (λ (z : ℤ) (n : ℕ). natAbs z + n) (λ a b c. omega arith) p 0
 
--- the test
-pub perm-plain : (f : Format) {xs ys : List Float} → Perm xs ys → allPlain f xs ≡ allPlain f ys
-perm-plain f p =
-    Perm·foldr-eq Bool-set (λ (x : Float) (b : Bool). plain f x && b)
-    (λ x y b. sym (and-assoc (plain f x) (plain f y) b) ∙ rw (and-comm (plain f x) (plain f y)) (and-assoc (plain f y) (plain f x) b)) p true
+-- a test of each
+pub perm-all {ℓ} : {A : Type ℓ} (t : A → Bool) {xs ys : List A} → Perm xs ys → all t xs ≡ all t ys
+perm-all {A = A} t p =
+    Perm·foldr-eq Bool-set (λ (x : A) (b : Bool). t x && b)
+    (λ x y b. sym (and-assoc (t x) (t y) b) ∙ rw (and-comm (t x) (t y)) (and-assoc (t y) (t x) b)) p true
 
--- ---- floats that all pass the test
-
--- a test at every index
-pub plain-each : (f : Format) (xs : List Float) (d : Float) → ((i : ℕ) → i < length xs → T (plain f (getD xs i d))) → T (allPlain f xs)
-plain-each f [] d h = tt
-plain-each f (x ∷ xs) d h = and-i (plain f x) (allPlain f xs) (h 0 (zero-lt-suc (length xs))) (plain-each f xs d (λ i l. h (suc i) (suc-le-suc l)))
+-- ---- lists that pass a test
 
 -- lists joined
-plain-append : (f : Format) (xs ys : List Float) → T (allPlain f (xs ++ ys)) → T (allPlain f xs) × T (allPlain f ys)
-plain-append f [] ys t = (tt, t)
-plain-append f (x ∷ xs) ys t =
-    let r = plain-append f xs ys (and-r (plain f x) (allPlain f (xs ++ ys)) t) in
-    (and-i (plain f x) (allPlain f xs) (and-l (plain f x) (allPlain f (xs ++ ys)) t) (r .0), r .1)
+pub all-append {ℓ} : {A : Type ℓ} (t : A → Bool) (xs ys : List A) → all t (xs ++ ys) ≡ all t xs && all t ys
+all-append t [] ys = refl
+all-append t (x ∷ xs) ys = rw (all-append t xs ys) (sym (and-assoc (t x) (all t xs) (all t ys)))
+
+-- a test at every index
+pub all-each {ℓ} : {A : Type ℓ} (t : A → Bool) (xs : List A) (d : A) → ((i : ℕ) → i < length xs → T (t (getD xs i d))) → T (all t xs)
+all-each t [] d h = tt
+all-each t (x ∷ xs) d h = and-i (t x) (all t xs) (h 0 (zero-lt-suc (length xs))) (all-each t xs d (λ i l. h (suc i) (suc-le-suc l)))
 
 -- ---- the sums
 
@@ -86,14 +84,14 @@ pub total-plain : (f : Format) (t : Tree) → T (allPlain f (leaves t)) → weig
 total-plain f none c h = holds-ofInt f (pos 0) (omega arith)
 total-plain f (one x) c h = rw (+ℤ-idr (number x)) (plain-holds f x (and-l (plain f x) true c))
 total-plain f (join t u) c h =
-    let d = plain-append f (leaves t) (leaves u) c in
+    let d : T (allPlain f (leaves t) && allPlain f (leaves u)) = rw (all-append (plain f) (leaves t) (leaves u)) at c in
     let xs = map number (leaves t) in
     let ys = map number (leaves u) in
     let w : weight xs + weight ys ≤ 2 ^ prec f = rw (map-append number (leaves t) (leaves u), weight-append xs ys) at h in
     rw (map-append number (leaves t) (leaves u), sum-append xs ys)
     (holds-add f (omega (arith, size-add (sumℤ xs) (sumℤ ys), size-sum xs, size-sum ys))
-    (total-plain f t (d .0) (omega arith))
-    (total-plain f u (d .1) (omega arith)))
+    (total-plain f t (and-l (allPlain f (leaves t)) (allPlain f (leaves u)) d) (omega arith))
+    (total-plain f u (and-r (allPlain f (leaves t)) (allPlain f (leaves u)) d) (omega arith)))
 
 -- not where the tree is added to +0
 pub total-from-zero : (f : Format) (t : Tree) → T (allPlain f (leaves t)) → weight (map number (leaves t)) ≤ 2 ^ prec f
@@ -105,4 +103,4 @@ pub plain-agree : (f : Format) (xs : List Float) (u : Tree) → Perm xs (leaves 
     → sumFrom f (ofInt f (pos 0)) xs ≡ total f (join none u)
 plain-agree f xs u p c h =
     loop-plain f (pos 0) xs c (omega arith) ∙ ap (ofInt f) (+ℤ-idl (sumℤ (map number xs)) ∙ perm-sum (Perm·map number p))
-    ∙ sym (total-from-zero f u (rw (perm-plain f p) at c) (rw (perm-weight (Perm·map number p)) at h))
+    ∙ sym (total-from-zero f u (rw (perm-all (plain f) p) at c) (rw (perm-weight (Perm·map number p)) at h))

@@ -1,0 +1,1 @@
+-- The theorem: dealing, order and tree change no bit.
