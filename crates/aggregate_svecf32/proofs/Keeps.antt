@@ -156,12 +156,17 @@ module _ (h : Header) (p : Pair) (v : Vector) (more : ℕ) (state : stateOf h p 
 
 -- ---- the calls
 module _ (h : Header) (p : Pair) where
-  pub row-fits : (v : Vector) → rowOf h p v ≡ Valid → Fits (taken h p v 1) p
+  pub row-tests : (v : Vector) → rowOf h p v ≡ Valid → (checkedOf v ≡ Valid) × (stateOf h p ≡ Valid) × (takeOf h v 1 ≡ Valid)
   unfolding rowOf
-  row-fits v e =
+  row-tests v e =
       let a = next-valid (checkedOf v) _ e in
       let b = next-valid (stateOf h p) _ (a .1) in
-      taken-fits h p v 1 (b .0) (sound v (a .0)) (omega arith) (omega arith) (b .1)
+      (a .0, b .0, b .1)
+
+  pub row-fits : (v : Vector) → rowOf h p v ≡ Valid → Fits (taken h p v 1) p
+  row-fits v e =
+      let t = row-tests v e in
+      taken-fits h p v 1 (t .1) (sound v (t .0)) (omega arith) (omega arith) (t .2)
 
   pub combine-tests : (g : Header) (o : Pair) → combineOf h p g o ≡ Valid
       → (stateOf g o ≡ Valid) × (stateOf h p ≡ Valid) × (cond (g .begun) (takeOf h (held g o) (g .count)) Valid ≡ Valid)

@@ -28,14 +28,19 @@ pub record Fair (d : ℕ) (rows : List Vector) : Type 0 where
 
 -- Rows whose totals are exact
 pub record Whole (rows : List Vector) : Type 0 where
-  -- "one or more .. rows"
-  pub some : 1 ≤ length rows
   -- values are f32: each is one that binary32 holds, as every value of a list of f32 is
   pub floats : T (all (λ v. all (fits binary32) (v .values)) rows)
   -- "all values whole numbers"
   pub whole : T (all (λ v. all integral (v .values)) rows)
   -- "magnitudes at each index adding up to at most 16,777,216"
   pub small : (k : ℕ) → weightAt rows k ≤ 16777216
+
+-- "Take one or more valid rows of one dims, at most 16,777,216 rows, all values whole numbers, magnitudes at each index .."
+pub record Takes (d : ℕ) (rows : List Vector) : Type 0 where
+  -- "one or more"
+  pub some : 1 ≤ length rows
+  pub fair : Fair d rows
+  pub whole : Whole rows
 
 -- ---- what it tells
 
