@@ -8,9 +8,11 @@ use mathlib.Core.Bool.{Bool, true, false}
 use mathlib.Core.Path.{_≡_, refl, sym, ap, _∙_}
 use lib.Dec.{T, ltb, eqb, ltb→lt, lt→ltb, eqb→eq}
 use lib.IntN.{ℤ}
-use lib.Ieee.{Float, nan, inf, fin, Format, up, down, unlike, round, sum, add, mul, lt, eq, below, level}
+use lib.Ieee.{Float, nan, inf, fin, Format, up, down, unlike, round, sum, add, mul, div, lt, eq, below, level}
 use lib.Ieee.Fits.{down-pos, eq→eqb}
+use lib.Ieee.Positive.{first-pos}
 use lib.Ieee.Scale.{round-same}
+use borrow.Author.Tests.{ne-eqb}
 use Rattle.whole.specs.Whole.{Holds}
 
 -- two tests that pass together are one
@@ -94,6 +96,18 @@ module _ {x y : Float} {v w : ℤ} (h : Holds x v) (k : Holds y w) where
       let d = shape k .1 in
       rw (shape h .2, shape k .2, shape h .3, shape k .3, mul-mul-mul-comm (h .size) (down e) (k .size) (down d))
       (round-scale f (unlike (h .sign) (k .sign)) (h .size * k .size) (down e * down d) (mul-pos (down-pos e) (down-pos d)))
+
+  -- a quotient too, where what it is divided by is not 0
+  pub div-val : (f : Format) → 0 < k .size → div f x y ≡ round f (unlike (h .sign) (k .sign)) (h .size) (k .size)
+  unfolding div
+  div-val f K =
+      let e = shape h .1 in
+      let n = shape k .0 in
+      let d = shape k .1 in
+      let N : 0 < n = first-pos n (up d) (rw (shape k .3) (mul-pos K (down-pos d))) in
+      rw (shape h .2, shape k .2, ne-eqb n 0 (λ z. omega arith), shape h .3, shape k .3)
+      (round-same f (unlike (h .sign) (k .sign)) (h .size * down e * down d) (k .size * down d * down e) (h .size) (k .size)
+      (mul-pos (mul-pos K (down-pos d)) (down-pos e)) K (omega arith))
 
   -- x < y
   pub lt-val : lt x y ≡ below (h .sign) (h .size) (k .sign) (k .size)
