@@ -21,18 +21,18 @@ use Rattle.whole.proofs.Values.{div-val}
 use Rattle.whole.proofs.Holds.{holds-size}
 use Rattle.whole.proofs.Numbers.{ofInt-zero}
 
--- x == 0.0 is false
+-- x is no zero of either sign
 abbrev Nonzero : Float → Type 0
 Nonzero x = eq x (fin false 0 (pos 0)) ≡ false
 
--- of a float with a size
+-- what has a size is none
 sized : (x : Float) (s : Bool) (a c : ℕ) → 0 < a → HasValue x s a c → Nonzero x
 unfolding eq
 sized (fin t m e) s a c A v =
     let M : 0 < m * up e = first-pos (m * up e) c (rw (v .1) (mul-pos A (down-pos e))) in
     rw (ne-eqb (m * up e * 1) (0 * down e) (λ z. omega arith))
 
--- of one of the format's smallest values, or more
+-- nor is one of the format's smallest values, or more
 units-some : (f : Format) (s : Bool) (q k : ℕ) → 0 < q → Nonzero (units f s q k)
 unfolding units eq
 units-some f s q k Q = go (ltb (q * 2 ^ k) (2 ^ (low f + suc (emax f))))
@@ -41,7 +41,7 @@ units-some f s q k Q = go (ltb (q * 2 ^ k) (2 ^ (low f + suc (emax f))))
     go true = sized (odd (suc (prec f)) s q k (low f)) s (q * 2 ^ k) (2 ^ low f) (mul-pos Q (pow-pos k)) (odd-sign (suc (prec f)) s q k (low f))
     go false = refl
 
--- of a fraction that is not below the smallest value: of its digits one is kept at least
+-- nor what a fraction is rounded to that is not below the smallest value: of its digits one is kept at least
 round-some : (f : Format) (s : Bool) (a b : ℕ) → 0 < b → b ≤ a * 2 ^ low f → Nonzero (round f s a b)
 round-some f s a b B h =
     let n = a * 2 ^ low f in
@@ -49,11 +49,11 @@ round-some f s a b B h =
     let k = size w - prec f in
     let u = b * 2 ^ k in
     let W : 2 ^ k ≤ w =
-    ⊎-elim (λ z. rw z (le-div-iff-mul-le B .1 (omega arith))) (λ l. size-reaches w k (omega (arith, two f))) (eq-zero-or-pos k) in
+        ⊎-elim (λ z. rw z (le-div-iff-mul-le B .1 (omega arith))) (λ l. size-reaches w k (omega (arith, two f))) (eq-zero-or-pos k) in
     let U : 1 ≤ n / u = le-div-iff-mul-le (mul-pos B (pow-pos k)) .1 (omega (arith, le-div-iff-mul-le B .0 W)) in
     rw (round-is f s a b) (units-some f s _ k (le-trans U (nearest-ge (n / u) (compare (n % u * 2) u))))
 
--- of a quotient, where 1 divided by the same is not below it
+-- so neither is a quotient, where the smallest value times the second is at most 1
 pub div-nonzero : (f : Format) {x y : Float} {a b : ℤ} → Holds x a → Holds y b → 0 < natAbs a → 0 < natAbs b → natAbs b ≤ 2 ^ low f
     → eq (div f x y) (ofInt f (pos 0)) ≡ false
 div-nonzero f h k A B l =
