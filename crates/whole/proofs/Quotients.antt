@@ -41,7 +41,7 @@ units-some f s q k Q = go (ltb (q * 2 ^ k) (2 ^ (low f + suc (emax f))))
     go true = sized (odd (suc (prec f)) s q k (low f)) s (q * 2 ^ k) (2 ^ low f) (mul-pos Q (pow-pos k)) (odd-sign (suc (prec f)) s q k (low f))
     go false = refl
 
--- nor what a fraction is rounded to that is not below the smallest value: of its digits one is kept at least
+-- nor is a fraction that is not below the smallest value, once it is rounded: of its digits one is kept at least
 round-some : (f : Format) (s : Bool) (a b : ℕ) → 0 < b → b ≤ a * 2 ^ low f → Nonzero (round f s a b)
 round-some f s a b B h =
     let n = a * 2 ^ low f in
