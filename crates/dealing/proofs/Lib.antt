@@ -1,7 +1,7 @@
 -- The theorem: dealing, order and tree change no bit.
 pub mod Numbers
+pub mod Quotients
 pub mod Added
 pub mod Holding
 pub mod Owning
-pub mod Quotients
 pub mod Theorem

@@ -1,9 +1,8 @@
 -- THE THEOREM: dealing, order and tree change no bit. Assumes nothing.
 use Prim.Native.Nat.{ℕ, zero, suc, _+_, _≤_, _<_}
-use native.Mathlib.Nat.{ℕ-set}
 use native.Mathlib.Omega.{arith}
 use mathlib.Core.Bool.{Bool, true, false, cond}
-use mathlib.Core.List.{List, [], _∷_, _++_, append-nil, Perm, Perm·refl, Perm·symm, Perm·foldr-eq, foldr, Perm·map, Perm·eq-nil}
+use mathlib.Core.List.{List, [], _∷_, _++_, append-nil, Perm, Perm·refl, Perm·symm,  Perm·map, Perm·eq-nil}
 use mathlib.Core.Path.{_≡_, refl, sym, ap, ap₂, _∙_, subst₂}
 use lib.Dec.{T, eqb, eqb→eq}
 use lib.IntN.{ℤ, natAbs}
@@ -12,7 +11,7 @@ use lib.Ieee.{Float, binary32, fits}
 use lib.Ieee.Fits.{and-l}
 use Rattle.whole.specs.Whole.{integral}
 use Rattle.whole.specs.Sums.{all}
-use Rattle.whole.proofs.Folds.{size-sum, perm-sum, perm-weight, perm-all}
+use Rattle.whole.proofs.Folds.{size-sum, perm-sum, perm-weight, perm-all, perm-length}
 use Rattle.refusal.specs.declared.Checked.{Checked}
 use Rattle.refusal.specs.declared.Checked.the-variants.{Valid}
 use Rattle.refusal.specs.declared.Written.{Written}
@@ -38,14 +37,6 @@ use Rattle.dealing.proofs.Owning.{Owns, none, more, owns}
 use Rattle.dealing.proofs.Quotients.{over-entry}
 
 -- ---- the order of the rows
-
--- the length
-perm-length {ℓ} : {A : Type ℓ} {xs ys : List A} → Perm xs ys → length xs ≡ length ys
-perm-length {A = A} {xs = xs} {ys = ys} p = sym (counted xs) ∙ Perm·foldr-eq ℕ-set (λ (x : A) (n : ℕ). suc n) (λ x y n. refl) p 0 ∙ counted ys
-  where
-    counted : (l : List A) → foldr (λ (x : A) (n : ℕ). suc n) 0 l ≡ length l
-    counted [] = refl
-    counted (x ∷ l) = ap suc (counted l)
 
 module _ {xs ys : List Vector} (p : Perm xs ys) where
   same-total : (k : ℕ) → totalAt xs k ≡ totalAt ys k
