@@ -50,10 +50,10 @@ holding-kept p q h o a b (full t s c v) =
     let f = y .fair in
     let few : h .len ≤ h .length = omega (arith, f .room, f .fits) in
     let e : held h q ≡ held h p =
-        ap₂ (vector (h .dims)) (part-kept (h .start) (h .length) (h .len) (p .indexes) (q .indexes) few a)
-        (part-kept (h .start) (h .length) (h .len) (p .values) (q .values) few b) in
+    ap₂ (vector (h .dims)) (part-kept (h .start) (h .length) (h .len) (p .indexes) (q .indexes) few a)
+    (part-kept (h .start) (h .length) (h .len) (p .values) (q .values) few b) in
     let some : 1 ≤ h .length =
-        omega (arith, f .fits, eqb-true (capacityFor (h .dims) (h .capacity)) (h .capacity) (f .capacity), cap-pos (h .dims) (h .capacity) (f .sound .low)) in
+    omega (arith, f .fits, eqb-true (capacityFor (h .dims) (h .capacity)) (h .capacity) (f .capacity), cap-pos (h .dims) (h .capacity) (f .sound .low)) in
     full {o = o} t
     (fair-state h q t
     (record {

@@ -2,7 +2,7 @@
 use Prim.Native.Nat.{ℕ, zero, suc, _+_, _≤_, _<_}
 use native.Mathlib.Omega.{arith}
 use mathlib.Core.Bool.{Bool, true, false, cond}
-use mathlib.Core.List.{List, [], _∷_, _++_, append-nil, Perm, Perm·refl, Perm·symm,  Perm·map, Perm·eq-nil}
+use mathlib.Core.List.{List, [], _∷_, _++_, append-nil, Perm, Perm·refl, Perm·symm, Perm·map, Perm·eq-nil}
 use mathlib.Core.Path.{_≡_, refl, sym, ap, ap₂, _∙_, subst₂}
 use lib.Dec.{T, eqb, eqb→eq}
 use lib.IntN.{ℤ, natAbs}
@@ -96,9 +96,9 @@ same-places f g z (suc n) = ap₂ _++_ (same-places f g z n) (go (eqb (natAbs (z
 shares : (d : ℕ) (rows : List Vector) → Takes d rows → shared (length rows) (totals d rows) ≡ averages d rows
 shares d rows t =
     let e = entries-same (λ k. over (length rows) (at (totals d rows) k)) (λ k. entry (share (length rows)) (totalAt rows k)) d
-        (λ k h.
-        ap (over (length rows)) (at-below (λ k. entry total (totalAt rows k)) d k h)
-        ∙ over-entry (totalAt rows k) (length rows) (omega (arith, size-sum (numbersAt rows k), t .whole .small k)) (t .some) (t .fair .few)) in
+    (λ k h.
+    ap (over (length rows)) (at-below (λ k. entry total (totalAt rows k)) d k h)
+    ∙ over-entry (totalAt rows k) (length rows) (omega (arith, size-sum (numbersAt rows k), t .whole .small k)) (t .some) (t .fair .few)) in
     ap₂ (vector d) (e .0) (e .1)
 
 tells : (m : Store) (s : State) (d : ℕ) (rows : List Vector) → Takes d rows → Holding (m (s .lists)) (s .header) rows → Tells m s d rows

@@ -79,24 +79,20 @@ liesIn (Refused h n c) p q = p
 pub data Run : Store → List State → List Vector → Type 0 where
   -- at first there are lists, and no state
   start : (m : Store) → Run m [] []
-
   -- anything may be written where no state lies
   elsewhere : {m : Store} {ss : List State} {rows : List Vector} → Run m ss rows
       → (m′ : Store) → Each (Kept m m′) ss
       → Run m′ ss rows
-
   -- "any number of fresh states", each in a region that overlaps no other
   begin : {m : Store} {ss : List State} {rows : List Vector} → Run m ss rows
       → (p at n : ℕ) → Each (Clear p at n) ss
       → Run m (state p (fresh at n) ∷ ss) rows
-
   -- "Deal each row to one of .. [the] states .. feed them in any order"
   feed : {m : Store} {ss : List State} {rows : List Vector} → Run m ss rows
       → (s : State) (rest : List State) → Pick s ss rest
       → (v : Vector) (t : Told) (m′ : Store) → Only (s .lists) m m′
       → Rows (s .header) (m (s .lists)) v t (m′ (s .lists))
       → Run m′ (state (s .lists) (handed t) ∷ rest) (taken t v rows)
-
   -- "combine .. in any tree .., two that meet lying in different lists": b into a
   meet : {m : Store} {ss : List State} {rows : List Vector} → Run m ss rows
       → (a : State) (others : List State) → Pick a ss others
@@ -104,7 +100,6 @@ pub data Run : Store → List State → List Vector → Type 0 where
       → (t : Told) (m′ : Store) → Only (a .lists) m m′
       → Combines (a .header) (m (a .lists)) (b .header) (m (b .lists)) t (m′ (a .lists))
       → Run m′ (state (a .lists) (handed t) ∷ remain t b rest) rows
-
   -- "move states that answer NEED", to regions in other lists that overlap no other
   carry : {m : Store} {ss : List State} {rows : List Vector} → Run m ss rows
       → (s : State) (rest : List State) → Pick s ss rest
