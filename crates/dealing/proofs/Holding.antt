@@ -23,7 +23,7 @@ use Rattle.aggregate_svecf32.specs.Calls.{rowOf, Rows, combineOf, combined, Com
 use Rattle.aggregate_svecf32.specs.declared.Header.{Header}
 use Rattle.aggregate_svecf32.specs.declared.Told.{Told}
 use Rattle.aggregate_svecf32.specs.declared.Told.the-variants.{Done, Refused as Stayed}
-use Rattle.aggregate_svecf32.proofs.Consistent.{Inside, Bare, state-sure, state-bare, fair-state}
+use Rattle.aggregate_svecf32.proofs.Consistent.{Inside, Fair, Bare, state-sure, fair-state}
 use Rattle.aggregate_svecf32.proofs.Joined.{merge-passed}
 use Rattle.aggregate_svecf32.proofs.Keeps.{Fits, acts-kept, acts-told, acts-indexes, acts-values, fits-keeps}
 use Rattle.aggregate_svecf32.proofs.Keeps.{row-tests, row-fits, combine-tests, combined-fits, combine-leaves, moved-fits}
@@ -39,29 +39,38 @@ pub data Holding (p : Pair) (h : Header) : List Vector → Type 0 where
   bare : h .begun ≡ false → Bare h → Holding p h []
   full : {o : List Vector} → h .begun ≡ true → stateOf h p ≡ Valid → h .count ≡ length o → SumOf (held h p) o → Holding p h o
 
--- where its region is as it was, it still does
-pub holding-kept : (p q : Pair) (h : Header) (o : List Vector)
-    → part (h .start) (h .length) (q .indexes) ≡ part (h .start) (h .length) (p .indexes)
-    → part (h .start) (h .length) (q .values) ≡ part (h .start) (h .length) (p .values)
-    → Holding p h o → Holding q h o
-holding-kept p q h o a b (bare t z) = bare t z
-holding-kept p q h o a b (full t s c v) =
-    let y = state-sure h p s t in
-    let f = y .fair in
-    let few : h .len ≤ h .length = omega (arith, f .room, f .fits) in
-    let e : held h q ≡ held h p =
-    ap₂ (vector (h .dims)) (part-kept (h .start) (h .length) (h .len) (p .indexes) (q .indexes) few a)
-    (part-kept (h .start) (h .length) (h .len) (p .values) (q .values) few b) in
-    let some : 1 ≤ h .length =
-    omega (arith, f .fits, eqb-true (capacityFor (h .dims) (h .capacity)) (h .capacity) (f .capacity), cap-pos (h .dims) (h .capacity) (f .sound .low)) in
-    full {o = o} t
-    (fair-state h q t
-    (record {
-      indexes = part-inside (h .start) (h .length) (p .indexes) (q .indexes) some a (y .inside .indexes);
-      values = part-inside (h .start) (h .length) (p .values) (q .values) some b (y .inside .values);
-    })
-    (record { capacity = f .capacity; room = f .room; fits = f .fits; some = f .some; most = f .most; sound = rw e (f .sound) }))
-    c (rw e v)
+-- a region is not empty once its state has begun
+region-some : {h : Header} {p : Pair} → Fair h p → 1 ≤ h .length
+region-some {h} f =
+    omega (arith, f .fits, eqb-true (capacityFor (h .dims) (h .capacity)) (h .capacity) (f .capacity), cap-pos (h .dims) (h .capacity) (f .sound .low))
+
+-- where its region is as it was, so is the state
+module _ (p q : Pair) (h : Header) (a : part (h .start) (h .length) (q .indexes) ≡ part (h .start) (h .length) (p .indexes))
+    (b : part (h .start) (h .length) (q .values) ≡ part (h .start) (h .length) (p .values)) where
+  held-kept : h .len ≤ h .length → held h q ≡ held h p
+  held-kept few =
+      ap₂ (vector (h .dims)) (part-kept (h .start) (h .length) (h .len) (p .indexes) (q .indexes) few a)
+      (part-kept (h .start) (h .length) (h .len) (p .values) (q .values) few b)
+
+  pub holding-kept : (o : List Vector) → Holding p h o → Holding q h o
+  holding-kept o (bare t z) = bare t z
+  holding-kept o (full t s c v) =
+      let y = state-sure h p s t in
+      let f = y .fair in
+      let e = held-kept (omega (arith, f .room, f .fits)) in
+      let i : Inside h q = record {
+        indexes = part-inside (h .start) (h .length) (p .indexes) (q .indexes) (region-some f) a (y .inside .indexes);
+        values = part-inside (h .start) (h .length) (p .values) (q .values) (region-some f) b (y .inside .values);
+      } in
+      let g : Fair h q = record {
+        capacity = f .capacity;
+        room = f .room;
+        fits = f .fits;
+        some = f .some;
+        most = f .most;
+        sound = rw e (f .sound);
+      } in
+      full {o = o} t (fair-state h q t i g) c (rw e v)
 
 -- ---- what a call leaves
 

@@ -56,7 +56,7 @@ own-pick (there {t = t} k) (more own others h f w p) = let e = each-pick (Free t
 own-kept : {m m′ : Store} {ss : List State} {rows : List Vector} → Each (Kept m m′) ss → Owns m ss rows → Owns m′ ss rows
 own-kept e none = none
 own-kept {m} {m′} e (more {s = s} own others h f w p) =
-    more own others (holding-kept (m (s .lists)) (m′ (s .lists)) (s .header) own (e .0 .0) (e .0 .1) h) f (own-kept (e .1) w) p
+    more own others (holding-kept (m (s .lists)) (m′ (s .lists)) (s .header) (e .0 .0) (e .0 .1) own h) f (own-kept (e .1) w) p
 
 -- the state h took in the rows `own`, in the region of n places from `at` on of the pair p; only that region changed
 module _ {m m′ : Store} {p at n : ℕ} {h : Header} {own : List Vector} (only : Only p m m′) (l : Lies at n (m p) (m′ p) h own) where

@@ -93,13 +93,14 @@ same-places f g z (suc n) = ap₂ _++_ (same-places f g z n) (go (eqb (natAbs (z
     go false = refl
 
 -- each total, divided by the count, is its share: none is dropped
-shares : (d : ℕ) (rows : List Vector) → Takes d rows → shared (length rows) (totals d rows) ≡ averages d rows
-shares d rows t =
-    let e = entries-same (λ k. over (length rows) (at (totals d rows) k)) (λ k. entry (share (length rows)) (totalAt rows k)) d
-    (λ k h.
-    ap (over (length rows)) (at-below (λ k. entry total (totalAt rows k)) d k h)
-    ∙ over-entry (totalAt rows k) (length rows) (omega (arith, size-sum (numbersAt rows k), t .whole .small k)) (t .some) (t .fair .few)) in
-    ap₂ (vector d) (e .0) (e .1)
+module _ (d : ℕ) (rows : List Vector) (t : Takes d rows) where
+  share-at : (k : ℕ) → k < d → over (length rows) (at (totals d rows) k) ≡ entry (share (length rows)) (totalAt rows k)
+  share-at k h =
+      ap (over (length rows)) (at-below (λ k. entry total (totalAt rows k)) d k h)
+      ∙ over-entry (totalAt rows k) (length rows) (omega (arith, size-sum (numbersAt rows k), t .whole .small k)) (t .some) (t .fair .few)
+
+  shares : shared (length rows) (totals d rows) ≡ averages d rows
+  shares = let e = entries-same _ _ d share-at in ap₂ (vector d) (e .0) (e .1)
 
 tells : (m : Store) (s : State) (d : ℕ) (rows : List Vector) → Takes d rows → Holding (m (s .lists)) (s .header) rows → Tells m s d rows
 tells m s d rows t (bare b z) = absurd (omega (arith, t .some))
