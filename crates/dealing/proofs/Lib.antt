@@ -5,3 +5,5 @@ pub mod Added
 pub mod Holding
 pub mod Owning
 pub mod Theorem
+pub mod Needs
+pub mod Stores
