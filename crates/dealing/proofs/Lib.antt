@@ -7,3 +7,4 @@ pub mod Owning
 pub mod Theorem
 pub mod Needs
 pub mod Stores
+pub mod Finishing
