@@ -8,3 +8,4 @@ pub mod Theorem
 pub mod Needs
 pub mod Stores
 pub mod Finishing
+pub mod Trial
