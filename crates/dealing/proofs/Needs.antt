@@ -40,12 +40,6 @@ past false n p later e other = (refl, e)
 never : {c : ℕ} → Valid ≡ Refused NEED c → ⊥
 never e = let z : _≡_ {A = ℕ} 0 1 = cc in omega arith
 
--- tests that find other numbers only have found nothing
-past-all : (first later : Checked) {c : ℕ} → next first later ≡ Refused NEED c → (first ≡ Refused NEED c → ⊥)
-    → (first ≡ Valid) × (later ≡ Refused NEED c)
-past-all Valid later e other = (refl, e)
-past-all (Refused n p) later e other = absurd (other e)
-
 row-other : (v : Vector) {c : ℕ} → checkedOf v ≡ Refused NEED c → ⊥
 unfolding checkedOf
 row-other v e =
@@ -60,6 +54,12 @@ unfolding stateOf
 state-other h p e =
     let a = past (not (inside (h .start) (h .length) p)) 9 _ _ e (omega arith) in
     never (past (not (consistent h p)) 13 _ _ (a .1) (omega arith) .1)
+
+-- tests that find other numbers only have found nothing
+past-all : (first later : Checked) {c : ℕ} → (first ≡ Refused NEED c → ⊥) → next first later ≡ Refused NEED c
+    → (first ≡ Valid) × (later ≡ Refused NEED c)
+past-all Valid later other e = (refl, e)
+past-all (Refused n p) later other e = absurd (other e)
 
 -- ---- a vector comes to a state that answers NEED
 
@@ -116,35 +116,39 @@ module _ (h : Header) (p : Pair) (q : Pair) (start long : ℕ) (within : inside 
       (λ l. rw (le-leb (size v) (g .capacity - g .len) (omega arith)) (or-true (eqb (g .capacity) (g .dims))))
       (cap-room (h .dims) (h .len + size v)))
 
-  -- tests that come first and do not find NEED, then those of the state, and of taking the vector
-  mends : (first : Checked) (v : Vector) (more : ℕ) → (first ≡ Refused NEED c → ⊥) → (first ≡ Valid → Sound v)
-      → next first (next (stateOf h p) (takeOf h v more)) ≡ Refused NEED c
+  mends : (first : Checked) (v : Vector) (more : ℕ) → first ≡ Valid → stateOf h p ≡ Valid → Sound v → takeOf h v more ≡ Refused NEED c
       → Mends h p (size v) q start long (λ g o. next first (next (stateOf g o) (takeOf g v more)))
-  mends first v more other row e =
-      let a = past-all first _ e other in
-      let b = past-all (stateOf h p) _ (a .1) (state-other h p) in
-      let w = wanting h v more (b .1) in
-      let passes = move-passes v more (b .0) (row (a .0)) w in (
+  mends first v more passed state row e =
+      let w = wanting h v more e in
+      let passes = move-passes v more state row w in (
         passes,
-        λ r o acts. let k = move-keeps h p (size v) q start long acts passes in rw (k .told, a .0, k .state) (moved-takes v more w),
+        λ r o acts. let k = move-keeps h p (size v) q start long acts passes in rw (k .told, passed, k .state) (moved-takes v more w),
       )
 
   -- ---- the calls
 
   pub need-made-good : (v : Vector) → rowOf h p v ≡ Refused NEED c → Mends h p (size v) q start long (λ g o. rowOf g o v)
   unfolding rowOf
-  need-made-good v = mends (checkedOf v) v 1 (row-other v) (sound v)
+  need-made-good v e =
+      let a = past-all (checkedOf v) _ (row-other v) e in
+      let b = past-all (stateOf h p) _ (state-other h p) (a .1) in
+      mends (checkedOf v) v 1 (a .0) (b .0) (sound v (a .0)) (b .1)
 
-  pub combine-made-good : (b : Header) (y : Pair) → combineOf h p b y ≡ Refused NEED c → Mends h p (b .len) q start long (λ g o. combineOf g o b y)
+  pub combine-made-good : (b : Header) (y : Pair) → combineOf h p b y ≡ Refused NEED c
+      → Mends h p (b .len) q start long (λ g o. combineOf g o b y)
   unfolding combineOf
-  combine-made-good b y = go (b .begun) refl
+  combine-made-good b y e =
+      let a = past-all (stateOf b y) _ (state-other b y) e in
+      let d = past-all (stateOf h p) _ (state-other h p) (a .1) in
+      go (b .begun) refl (a .0) (d .0) (d .1)
     where
       tests : Bool → Header → Pair → Checked
       tests t g o = next (stateOf b y) (next (stateOf g o) (cond t (takeOf g (held b y) (b .count)) Valid))
 
-      go : (t : Bool) → b .begun ≡ t → tests t h p ≡ Refused NEED c → Mends h p (b .len) q start long (tests t)
-      go false t e = absurd (never (past-all (stateOf h p) _ (past-all (stateOf b y) _ e (state-other b y) .1) (state-other h p) .1))
-      go true t e =
-          subst (λ (n : ℕ). Mends h p n q start long (tests true))
-          (state-sure b y (past-all (stateOf b y) _ e (state-other b y) .0) t .many)
-          (mends (stateOf b y) (held b y) (b .count) (state-other b y) (λ s. state-sure b y s t .fair .sound) e)
+      go : (t : Bool) → b .begun ≡ t → stateOf b y ≡ Valid → stateOf h p ≡ Valid
+          → cond t (takeOf h (held b y) (b .count)) Valid ≡ Refused NEED c → Mends h p (b .len) q start long (tests t)
+      go false t passed state e = absurd (never e)
+      go true t passed state e =
+          let s = state-sure b y passed t in
+          subst (λ (n : ℕ). Mends h p n q start long (tests true)) (s .many)
+          (mends (stateOf b y) (held b y) (b .count) passed state (s .fair .sound) e)

@@ -8,12 +8,12 @@ use borrow.Author.Tests.{eq-eqb, ne-eqb}
 use Rattle.sparse.specs.Vectors.{Vector}
 use Rattle.regions.specs.Regions.{Pair}
 use Rattle.refusal.specs.declared.Checked.the-variants.{Refused}
-use Rattle.aggregate_svecf32.specs.Calls.{rowOf, Rows, Combines, Moves, taken}
+use Rattle.aggregate_svecf32.specs.Calls.{rowOf, Rows, Moves, taken}
 use Rattle.aggregate_svecf32.specs.declared.Told.{Told}
 use Rattle.aggregate_svecf32.specs.declared.Told.the-variants.{Refused as Kept}
 use Rattle.aggregate_svecf32.proofs.Acting.{acts-refused}
 use Rattle.dealing.specs.Runs as Runs
-use Rattle.dealing.specs.Runs.{Store, State, state, Pick, Each, Clear, Only, handed, remain, liesIn, Run, feed, meet, carry}
+use Rattle.dealing.specs.Runs.{Store, State, state, Pick, Each, Clear, Only, handed, liesIn, Run, feed, carry}
 
 -- the pair p is x now
 abbrev pub changed : Store → ℕ → Pair → Store

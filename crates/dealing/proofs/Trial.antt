@@ -5,22 +5,28 @@ use native.Mathlib.Omega.{arith}
 use mathlib.Core.List.{List, [], _∷_, _++_}
 use mathlib.Core.Logic.{inl, inr}
 use mathlib.Core.Path.{_≡_, refl}
-use mathlib.Core.Bool.{true, false, cond}
-use lib.Dec.{eqb}
+use mathlib.Core.Bool.{Bool, true, false, cond}
+use lib.Dec.{T, leb, eqb, leb→le}
 use borrow.Author.Tests.{ne-eqb}
-use lib.IntN.{pos}
+use lib.IntN.{pos, natAbs}
 use lib.ListN.{replicate}
 use lib.Ieee as Ieee
 use lib.Ieee.{Float, nan, fin}
 use Rattle.places.specs.Below.{countBelow, anyBelow}
 use Rattle.places.specs.Search.{firstFrom}
+use Rattle.whole.specs.Sums.{all}
+use Rattle.whole.specs.Whole.{integer}
 use Rattle.refusal.specs.Numbers.{ROOM, NEED}
 use Rattle.sparse.specs.Cells.{look, indexesBelow, valuesBelow}
 use Rattle.sparse.specs.Calls.{checkedOf}
-use Rattle.sparse.specs.Vectors.{Vector, vector}
+use Rattle.sparse.specs.Numbers.{numberAt}
+use Rattle.sparse.specs.Vectors.{Vector, vector, at}
+use Rattle.sparse.specs.declared.Cell.{Cell}
+use Rattle.sparse.specs.declared.Cell.the-variants.{Empty, Full}
+use Rattle.sparse.proofs.Numbers.{passing-at}
 use Rattle.regions.specs.Capacity.{capacityFor}
 use Rattle.regions.specs.Regions.{Pair, pair}
-use Rattle.aggregate_svecf32.specs.States.{header, fresh, consistent, stateOf}
+use Rattle.aggregate_svecf32.specs.States.{header, fresh, held, consistent, stateOf}
 use Rattle.aggregate_svecf32.specs.Calls.{taken, combined, moved, rowOf, Rows, combineOf, Combines, moveOf, Moves}
 use Rattle.aggregate_svecf32.specs.declared.Header.{Header}
 use Rattle.aggregate_svecf32.specs.declared.Told.the-variants.{Done, Refused}
@@ -168,3 +174,37 @@ trial =
         meet r6 (state 1 a3) (state 0 b1 ∷ c0 ∷ []) (there here) (state 0 b1) (c0 ∷ []) here (λ e. omega arith)
         (Done a4 14) (lists x2 y3) (only1 x2 y2 y3) (w .meets) in
     meet r7 (state 1 a4) (c0 ∷ []) here c0 [] here (λ e. omega arith) (Done a4 0) (lists x2 y3) (only1 x2 y3 y3) (w .bare)
+
+-- ---- its rows are as the theorem wants them
+
+pub trial-fair : Fair 17 (v3 ∷ v2 ∷ v1 ∷ [])
+unfolding checkedOf firstFrom anyBelow Ieee.eq Ieee.ofBits
+trial-fair = record { valid = tt; dims = tt; few = omega arith }
+
+-- values of size 2 at most
+abbrev little : Float → Bool
+little x = leb (natAbs (integer x)) 2
+
+little-at : (v : Vector) → T (all little (v .values)) → (k : ℕ) → natAbs (numberAt (at v k)) ≤ 2
+little-at v t k = go (at v k) refl
+  where
+    go : (x : Cell) → at v k ≡ x → natAbs (numberAt x) ≤ 2
+    go Empty e = omega arith
+    go (Full x) e = leb→le (natAbs (integer x)) 2 (passing-at little v t k x e)
+
+pub trial-whole : Whole (v3 ∷ v2 ∷ v1 ∷ [])
+unfolding Ieee.fits
+trial-whole = record {
+  some = omega arith;
+  floats = tt;
+  whole = tt;
+  small = λ k. omega (arith, little-at v1 tt k, little-at v2 tt k, little-at v3 tt k);
+}
+
+-- the totals, and so what the last state holds
+trial-totals : totals 17 (v3 ∷ v2 ∷ v1 ∷ []) ≡ sums
+unfolding look indexesBelow valuesBelow Ieee.ofInt
+trial-totals = refl
+
+trial-holds : held a4 y3 ≡ sums
+trial-holds = refl
