@@ -33,7 +33,9 @@ use Rattle.dealing.specs.Runs.{Store, State, state, here, Run, start, be
 use Rattle.dealing.proofs.Needs.{need-made-good}
 use Rattle.dealing.proofs.Stores.{changed, changed-at, fed, unfed, carried}
 
--- d places from 0 on lie inside all lists; one state has begun there, passes, and has taken in these rows
+-- ---- what is reached
+
+-- d places from 0 on lie inside all lists; one state has begun, passes, and has taken in these rows
 record Reached (d : ℕ) (rows : List Vector) : Type 0 where
   m : Store
   p : ℕ
@@ -45,9 +47,13 @@ record Reached (d : ℕ) (rows : List Vector) : Type 0 where
   dims : h .dims ≡ d
   count : h .count ≡ length rows
 
+-- what the tests of a row find
+abbrev due : {d : ℕ} {rows : List Vector} → Reached d rows → Vector → Checked
+due r v = rowOf (r .h) (r .m (r .p)) v
+
 -- a call has done its deed in the pair p
 abbrev reached : {d : ℕ} {rows : List Vector} (m : Store) → ((q : ℕ) → inside 0 d (m q) ≡ true) → (p : ℕ)
-    → {h : Header} {due : Checked} {w : Deed} {t : Told} {x : Pair} → Acts h due w (m p) t x → due ≡ Valid → Keeps w t x
+    → {h : Header} {tests : Checked} {w : Deed} {t : Told} {x : Pair} → Acts h tests w (m p) t x → tests ≡ Valid → Keeps w t x
     → w .header .dims ≡ d → w .header .count ≡ length rows → Run (changed m p x) (state p (w .header) ∷ []) rows → Reached d rows
 reached {d} m long p {w = w} {x = x} acts e k dims count run = record {
   m = changed m p x;
@@ -83,8 +89,8 @@ module _ {d : ℕ} (v : Vector) (passed : checkedOf v ≡ Valid) (same : v .dims
   unfolding rowOf
   first-due =
       let i = inside-facts (fresh 0 d) (blank d 0) (wide d 0) in
-      let b = bare-state (fresh 0 d) (blank d 0) refl i (record { dims = refl; len = refl; capacity = refl; count = refl }) in
-      rw (passed, b, le-ltb d (capacityFor (v .dims) (size v)) (omega (arith, cap-most (v .dims) (size v))))
+      let s = bare-state (fresh 0 d) (blank d 0) refl i (record { dims = refl; len = refl; capacity = refl; count = refl }) in
+      rw (passed, s, le-ltb d (capacityFor (v .dims) (size v)) (omega (arith, cap-most (v .dims) (size v))))
 
   first : Reached d (v ∷ [])
   first =
@@ -94,58 +100,57 @@ module _ {d : ℕ} (v : Vector) (passed : checkedOf v ≡ Valid) (same : v .dims
 
   -- ---- a later row
 
-  module _ {rows : List Vector} where
-    take : (r : Reached d rows) → rowOf (r .h) (r .m (r .p)) v ≡ Valid → Reached d (v ∷ rows)
-    take r e =
+  module _ {rows : List Vector} (r : Reached d rows) where
+    taking : due r v ≡ Valid → Reached d (v ∷ rows)
+    taking e =
         let o = row-some (r .h) (r .m (r .p)) v in
         let k = row-keeps (r .h) (r .m (r .p)) v (o .2) e in
         let b = r .begun in
         reached (r .m) (r .long) (r .p) (o .2) e k (rw b (r .dims)) (rw b (omega (arith, r .count)))
         (rw (k .told) at (fed (r .run) (state (r .p) (r .h)) here v (o .2)))
 
-    -- where NEED is answered the state moves, and the row comes again
-    again : (r : Reached d rows) {c : ℕ} → rowOf (r .h) (r .m (r .p)) v ≡ Refused NEED c → c ≤ d → Reached d (v ∷ rows)
-    again r e room =
+    -- the row is refused with NEED, and the state moves; then it passes
+    moving : {c : ℕ} → due r v ≡ Refused NEED c → c ≤ d → (r′ : Reached d rows) × (due r′ v ≡ Valid)
+    moving e room =
         let q = suc (r .p) in
-        let mends = need-made-good (r .h) (r .m (r .p)) (r .m q) 0 d (r .long q) room v e in
+        let good = need-made-good (r .h) (r .m (r .p)) (r .m q) 0 d (r .long q) room v e in
         let o = move-some (r .h) (r .m (r .p)) (size v) (r .m q) 0 d in
-        let k = move-keeps (r .h) (r .m (r .p)) (size v) (r .m q) 0 d (o .2) (mends .0) in
+        let k = move-keeps (r .h) (r .m (r .p)) (size v) (r .m q) 0 d (o .2) (good .0) in
         let refused = unfed (r .run) (state (r .p) (r .h)) here v e in
-        take
-        (reached (r .m) (r .long) q (o .2) (mends .0) k (r .dims) (r .count)
-        (rw (k .told) at (carried refused (state (r .p) (r .h)) here (size v) q 0 d tt (λ e. omega arith) (o .2))))
-        (rw (changed-at (r .m) q (o .1)) (rw (k .told) at (mends .1 (o .0) (o .1) (o .2))))
+        let went = carried refused (state (r .p) (r .h)) here (size v) q 0 d tt (λ e. omega arith) (o .2) in (
+          reached (r .m) (r .long) q (o .2) (good .0) k (r .dims) (r .count) (rw (k .told) at went),
+          rw (changed-at (r .m) q (o .1)) (rw (k .told) at (good .1 (o .0) (o .1) (o .2))),
+        )
 
-    later : Reached d rows → suc (length rows) ≤ 16777216 → Reached d (v ∷ rows)
-    unfolding rowOf
-    later r few = go (spare (r .h) (size v)) refl
-      where
-        due : {c : Checked} → mergeOf (r .h) v 1 ≡ c → rowOf (r .h) (r .m (r .p)) v ≡ c
-        due e = rw (passed, r .state, r .begun) e
+  later : {rows : List Vector} → Reached d rows → suc (length rows) ≤ 16777216 → Reached d (v ∷ rows)
+  unfolding rowOf
+  later {rows} r few = go (spare (r .h) (size v)) refl
+    where
+      tests : {c : Checked} → mergeOf (r .h) v 1 ≡ c → due r v ≡ c
+      tests e = rw (passed, r .state, r .begun) e
 
-        go : (b : Bool) → spare (r .h) (size v) ≡ b → Reached d (v ∷ rows)
-        go true f = take r (due (merge-passes (r .h) v 1 (r .dims ∙ sym same) (omega (arith, r .count)) f))
-        go false f =
-            again r (due (merge-need (r .h) v 1 (r .dims ∙ sym same) (omega (arith, r .count)) f))
-            (omega (arith, r .dims, cap-most (r .h .dims) (r .h .len + size v)))
+      go : (b : Bool) → spare (r .h) (size v) ≡ b → Reached d (v ∷ rows)
+      go true f = taking r (tests (merge-passes (r .h) v 1 (r .dims ∙ sym same) (omega (arith, r .count)) f))
+      go false f =
+          let need = tests (merge-need (r .h) v 1 (r .dims ∙ sym same) (omega (arith, r .count)) f) in
+          let a = moving r need (omega (arith, r .dims, cap-most (r .h .dims) (r .h .len + size v))) in
+          taking (a .0) (a .1)
 
 -- ---- all rows
 
-passed : (c : Checked) → T (passes c) → c ≡ Valid
-passed Valid t = refl
-passed (Refused n p) t = absurd t
+is-valid : (c : Checked) → T (passes c) → c ≡ Valid
+is-valid Valid t = refl
+is-valid (Refused n p) t = absurd t
 
--- a row that is valid, of these dims, and the others
+-- the first passes the test, and so do the others
+both : (t : Vector → Bool) (v : Vector) (rows : List Vector) → T (all t (v ∷ rows)) → T (t v) × T (all t rows)
+both t v rows h = (and-l (t v) (all t rows) h, and-r (t v) (all t rows) h)
+
 parts : {d : ℕ} {v : Vector} {rows : List Vector} → Fair d (v ∷ rows) → (checkedOf v ≡ Valid) × (v .dims ≡ d) × Fair d rows
-parts {d} {v} {rows} f = (
-  passed (checkedOf v) (and-l (passes (checkedOf v)) (all (λ v. passes (checkedOf v)) rows) (f .valid)),
-  eqb→eq (v .dims) d (and-l (eqb (v .dims) d) (all (λ v. eqb (v .dims) d) rows) (f .dims)),
-  record {
-    valid = and-r (passes (checkedOf v)) (all (λ v. passes (checkedOf v)) rows) (f .valid);
-    dims = and-r (eqb (v .dims) d) (all (λ v. eqb (v .dims) d) rows) (f .dims);
-    few = omega (arith, f .few);
-  },
-)
+parts {d} {v} {rows} f =
+    let a = both (λ v. passes (checkedOf v)) v rows (f .valid) in
+    let b = both (λ v. eqb (v .dims) d) v rows (f .dims) in
+    (is-valid (checkedOf v) (a .0), eqb→eq (v .dims) d (b .0), record { valid = a .1; dims = b .1; few = omega (arith, f .few) })
 
 reach : (d : ℕ) (v : Vector) (rows : List Vector) → Fair d (v ∷ rows) → Reached d (v ∷ rows)
 reach d v [] f = let a = parts f in first v (a .0) (a .1)
