@@ -64,21 +64,21 @@ abbrev v3 : Vector
 v3 = vector 17 (3 ∷ []) (minus ∷ [])
 
 -- the last one first, as a run has them
-abbrev rows : List Vector
+abbrev pub rows : List Vector
 rows = v3 ∷ v2 ∷ v1 ∷ []
 
 -- the index 3 is gone
-abbrev sums : Vector
+abbrev pub sums : Vector
 sums = vector 17 (0 ∷ 1 ∷ 2 ∷ 4 ∷ 5 ∷ 6 ∷ 7 ∷ 8 ∷ 9 ∷ 10 ∷ 11 ∷ 12 ∷ 13 ∷ 14 ∷ 15 ∷ 16 ∷ []) (replicate 15 one ++ (two ∷ []))
 
--- ---- the lists and the headers
+-- ---- the lists and the headers (start, length, begun, dims, len, capacity, count)
 
 -- any pair of lists at first: rubbish
 abbrev x0 : Pair
 x0 = pair (replicate 40 9) (replicate 40 nan)
 
 -- the pairs 0 and 1 are these
-abbrev lists : Pair → Pair → Store
+abbrev pub lists : Pair → Pair → Store
 lists x y q = cond (eqb q 0) x (cond (eqb q 1) y x0)
 
 -- a begins in the pair 0, from 0 on
@@ -103,17 +103,17 @@ abbrev a3 : Header
 a3 = header 1 17 true 17 17 17 2
 
 -- b begins in the pair 0, from 16 on
-abbrev x2 : Pair
+abbrev pub x2 : Pair
 x2 = pair (replicate 16 9 ++ (3 ∷ replicate 23 9)) (replicate 16 nan ++ (minus ∷ replicate 23 nan))
 
 abbrev b1 : Header
 b1 = header 16 16 true 17 1 16 1
 
 -- the two have met; the place after the 16 entries is open, and holds anything
-abbrev y3 : Pair
+abbrev pub y3 : Pair
 y3 = pair (9 ∷ (sums .indexes ++ (1000 ∷ replicate 22 9))) (nan ∷ (sums .values ++ (minus ∷ replicate 22 nan)))
 
-abbrev a4 : Header
+abbrev pub a4 : Header
 a4 = header 1 17 true 17 16 17 3
 
 -- ---- the calls: what they answer, and leave
@@ -130,7 +130,7 @@ record Calls : Type 0 where
 
 calls : Calls
 unfolding rowOf combineOf moveOf stateOf consistent checkedOf capacityFor firstFrom anyBelow countBelow look indexesBelow valuesBelow
-  Ieee.eq Ieee.ofBits Ieee.add
+    Ieee.eq Ieee.ofBits Ieee.add
 calls = record {
   short = acts-refused (taken (fresh 32 8) x0 v1 1) refl;
   begins = acts-done (taken (fresh 0 16) x0 v1 1) refl (search) (search);
@@ -161,34 +161,46 @@ b0 = state 0 (fresh 16 16)
 abbrev c0 : State
 c0 = state 0 (fresh 32 8)
 
-pub trial : Run (lists x2 y3) (state 1 a4 ∷ []) rows
-trial =
-    let w = calls in
+r0 : Run (lists x0 x0) (c0 ∷ b0 ∷ a0 ∷ []) []
+r0 =
     let a = begin (start (lists x0 x0)) 0 0 16 tt in
     let ab = begin a 0 16 16 ((λ e. inr (omega arith)), tt) in
-    let r0 : Run (lists x0 x0) (c0 ∷ b0 ∷ a0 ∷ []) [] = begin ab 0 32 8 ((λ e. inr (omega arith)), ((λ e. inr (omega arith)), tt)) in
-    -- v1 comes to c, which has 8 places, and then to a
-    let r1 : Run (lists x0 x0) (c0 ∷ b0 ∷ a0 ∷ []) [] =
-        feed r0 c0 (b0 ∷ a0 ∷ []) here v1 (Refused (fresh 32 8) ROOM 16) (lists x0 x0) (only0 x0 x0 x0) (w .short) in
-    let r2 : Run (lists x1 x0) (state 0 a1 ∷ c0 ∷ b0 ∷ []) (v1 ∷ []) =
-        feed r1 a0 (c0 ∷ b0 ∷ []) (there (there here)) v1 (Done a1 16) (lists x1 x0) (only0 x0 x1 x0) (w .begins) in
-    -- v2 comes to a, which has no room, moves, and takes it
-    let r3 : Run (lists x1 x0) (state 0 a1 ∷ c0 ∷ b0 ∷ []) (v1 ∷ []) =
-        feed r2 (state 0 a1) (c0 ∷ b0 ∷ []) here v2 (Refused a1 NEED 17) (lists x1 x0) (only0 x1 x1 x0) (w .needs) in
-    let r4 : Run (lists x1 y1) (state 1 a2 ∷ c0 ∷ b0 ∷ []) (v1 ∷ []) =
-        carry r3 (state 0 a1) (c0 ∷ b0 ∷ []) here 1 1 1 17 ((λ e. absurd (omega arith)), ((λ e. absurd (omega arith)), tt)) (λ e. omega arith)
-        (Done a2 0) (lists x1 y1) (only1 x1 x0 y1) (w .moves) in
-    let r5 : Run (lists x1 y2) (state 1 a3 ∷ c0 ∷ b0 ∷ []) (v2 ∷ v1 ∷ []) =
-        feed r4 (state 1 a2) (c0 ∷ b0 ∷ []) here v2 (Done a3 1) (lists x1 y2) (only1 x1 y1 y2) (w .merges) in
-    -- where a lay anything is written; v3 comes to b
-    let r6 : Run (lists x0 y2) (state 1 a3 ∷ c0 ∷ b0 ∷ []) (v2 ∷ v1 ∷ []) = elsewhere r5 (lists x0 y2) (search) in
-    let r7 : Run (lists x2 y2) (state 0 b1 ∷ state 1 a3 ∷ c0 ∷ []) rows =
-        feed r6 b0 (state 1 a3 ∷ c0 ∷ []) (there (there here)) v3 (Done b1 1) (lists x2 y2) (only0 x0 x2 y2) (w .other) in
-    -- b goes to a, and so does c
-    let r8 : Run (lists x2 y3) (state 1 a4 ∷ c0 ∷ []) rows =
-        meet r7 (state 1 a3) (state 0 b1 ∷ c0 ∷ []) (there here) (state 0 b1) (c0 ∷ []) here (λ e. omega arith)
-        (Done a4 14) (lists x2 y3) (only1 x2 y2 y3) (w .meets) in
-    meet r8 (state 1 a4) (c0 ∷ []) here c0 [] here (λ e. omega arith) (Done a4 0) (lists x2 y3) (only1 x2 y3 y3) (w .bare)
+    begin ab 0 32 8 ((λ e. inr (omega arith)), ((λ e. inr (omega arith)), tt))
+
+-- v1 comes to c, which has too few places, and then to a
+r1 : Run (lists x0 x0) (c0 ∷ b0 ∷ a0 ∷ []) []
+r1 = feed r0 c0 (b0 ∷ a0 ∷ []) here v1 (Refused (fresh 32 8) ROOM 16) (lists x0 x0) (only0 x0 x0 x0) (calls .short)
+
+r2 : Run (lists x1 x0) (state 0 a1 ∷ c0 ∷ b0 ∷ []) (v1 ∷ [])
+r2 = feed r1 a0 (c0 ∷ b0 ∷ []) (there (there here)) v1 (Done a1 16) (lists x1 x0) (only0 x0 x1 x0) (calls .begins)
+
+-- v2 comes to a, which has no room, moves, and takes it
+r3 : Run (lists x1 x0) (state 0 a1 ∷ c0 ∷ b0 ∷ []) (v1 ∷ [])
+r3 = feed r2 (state 0 a1) (c0 ∷ b0 ∷ []) here v2 (Refused a1 NEED 17) (lists x1 x0) (only0 x1 x1 x0) (calls .needs)
+
+r4 : Run (lists x1 y1) (state 1 a2 ∷ c0 ∷ b0 ∷ []) (v1 ∷ [])
+r4 =
+    carry r3 (state 0 a1) (c0 ∷ b0 ∷ []) here 1 1 1 17 ((λ e. absurd (omega arith)), ((λ e. absurd (omega arith)), tt)) (λ e. omega arith)
+    (Done a2 0) (lists x1 y1) (only1 x1 x0 y1) (calls .moves)
+
+r5 : Run (lists x1 y2) (state 1 a3 ∷ c0 ∷ b0 ∷ []) (v2 ∷ v1 ∷ [])
+r5 = feed r4 (state 1 a2) (c0 ∷ b0 ∷ []) here v2 (Done a3 1) (lists x1 y2) (only1 x1 y1 y2) (calls .merges)
+
+-- where a lay anything is written; v3 comes to b
+r6 : Run (lists x0 y2) (state 1 a3 ∷ c0 ∷ b0 ∷ []) (v2 ∷ v1 ∷ [])
+r6 = elsewhere r5 (lists x0 y2) (search)
+
+r7 : Run (lists x2 y2) (state 0 b1 ∷ state 1 a3 ∷ c0 ∷ []) rows
+r7 = feed r6 b0 (state 1 a3 ∷ c0 ∷ []) (there (there here)) v3 (Done b1 1) (lists x2 y2) (only0 x0 x2 y2) (calls .other)
+
+-- b meets a, and then c does
+r8 : Run (lists x2 y3) (state 1 a4 ∷ c0 ∷ []) rows
+r8 =
+    meet r7 (state 1 a3) (state 0 b1 ∷ c0 ∷ []) (there here) (state 0 b1) (c0 ∷ []) here (λ e. omega arith)
+    (Done a4 14) (lists x2 y3) (only1 x2 y2 y3) (calls .meets)
+
+pub trial : Run (lists x2 y3) (state 1 a4 ∷ []) rows
+trial = meet r8 (state 1 a4) (c0 ∷ []) here c0 [] here (λ e. omega arith) (Done a4 0) (lists x2 y3) (only1 x2 y3 y3) (calls .bare)
 
 -- ---- its rows are as the theorem takes them
 
