@@ -5,3 +5,7 @@ pub mod Added
 pub mod Holding
 pub mod Owning
 pub mod Theorem
+pub mod Needs
+pub mod Stores
+pub mod Finishing
+pub mod Trial
