@@ -3,7 +3,6 @@ use Prim.Native.Nat.{ℕ, _+_, _≤_}
 use native.Mathlib.Omega.{arith}
 use mathlib.Core.Bool.{Bool, true, false, cond, true≢false}
 use mathlib.Core.List.{List, [], _∷_, _++_, append-nil}
-use mathlib.Core.Logic.{_⊎_}
 use mathlib.Core.Path.{_≡_, refl, sym, ap, ap₂, _∙_, subst, subst₂}
 use lib.ListN.{length, length-append}
 use borrow.Author.Tests.{eqb-true}
@@ -14,7 +13,7 @@ use Rattle.refusal.proofs.Chains.{next-valid}
 use Rattle.sparse.specs.Vectors.{Vector, vector}
 use Rattle.sparse.specs.Calls.{checkedOf}
 use Rattle.regions.specs.Capacity.{capacityFor}
-use Rattle.regions.specs.Regions.{Pair, part}
+use Rattle.regions.specs.Regions.{Pair, part, Apart}
 use Rattle.regions.proofs.Apart.{stands-apart, part-kept, part-inside}
 use Rattle.regions.proofs.Capacities.{cap-pos}
 use Rattle.aggregate_svecf32.specs.States.{held, stateOf}
@@ -79,8 +78,8 @@ pub record Lies (start n : ℕ) (p q : Pair) (h : Header) (o : List Vector) : Ty
   pub holding : Holding q h o
   pub begins : h .start ≡ start
   pub long : h .length ≡ n
-  pub indexes : (s k : ℕ) → (start + n ≤ s) ⊎ (s + k ≤ start) → part s k (q .indexes) ≡ part s k (p .indexes)
-  pub values : (s k : ℕ) → (start + n ≤ s) ⊎ (s + k ≤ start) → part s k (q .values) ≡ part s k (p .values)
+  pub indexes : (s k : ℕ) → Apart start n s k → part s k (q .indexes) ≡ part s k (p .indexes)
+  pub values : (s k : ℕ) → Apart start n s k → part s k (q .values) ≡ part s k (p .values)
 
 pub lies-same : (p : Pair) (h : Header) (o : List Vector) → Holding p h o → Lies (h .start) (h .length) p p h o
 lies-same p h o g = record { holding = g; begins = refl; long = refl; indexes = λ s k a. refl; values = λ s k a. refl }
@@ -95,8 +94,8 @@ deed-lies {d = d} {p = p} {q = q} acts e f o s c =
       holding = full {o = o} (k .begun) (k .state) c (rw (k .holds) s);
       begins = refl;
       long = refl;
-      indexes = λ s n. stands-apart (acts-indexes acts e) (d .header .length) s n room;
-      values = λ s n. stands-apart (acts-values acts e) (d .header .length) s n room;
+      indexes = λ s n. stands-apart (d .header .start) (d .room) (d .vector .indexes) (p .indexes) (q .indexes) (acts-indexes acts e) (d .header .length) s n room;
+      values = λ s n. stands-apart (d .header .start) (d .room) (d .vector .values) (p .values) (q .values) (acts-values acts e) (d .header .length) s n room;
     }
 
 -- ---- a vector comes to a state

@@ -4,7 +4,6 @@ use native.Mathlib.Decide.{ℕ-discrete}
 use native.Mathlib.Omega.{arith}
 use mathlib.Core.Bool.{true, false}
 use mathlib.Core.List.{List, [], _∷_, _++_, append-assoc, Perm, Perm·cons, Perm·trans, Perm·refl, Perm·append-left, Perm·append-right, perm-append-comm}
-use mathlib.Core.Logic.{_⊎_, inl, inr, ⊎-elim}
 use mathlib.Core.Path.{_≡_, refl, sym, _∙_, subst}
 use Rattle.sparse.specs.Vectors.{Vector}
 use Rattle.regions.specs.Regions.{Pair, part}
@@ -33,7 +32,7 @@ turn {ℓ} : {A : Type ℓ} (a b c : List A) → Perm (a ++ (b ++ c)) (b ++ (a +
 turn a b c = rw (← append-assoc a b c, ← append-assoc b a c) (Perm·append-right c (perm-append-comm a b))
 
 free-sym : (s t : State) → Free s t → Free t s
-free-sym s t c e = ⊎-elim (λ h. inr h) (λ h. inl h) (c (sym e))
+free-sym s t c e i a b c′ d = c (sym e) i c′ d a b
 
 each-pick : (P : State → Type 0) {s : State} {ss rest : List State} → Pick s ss rest → Each P ss → P s × Each P rest
 each-pick P here e = (e .0, e .1)

@@ -3,8 +3,7 @@
 -- Assumes nothing.
 use Prim.Native.Nat.{ℕ, _≤_}
 use native.Mathlib.Omega.{arith}
-use mathlib.Core.List.{List, [], _∷_, _++_}
-use mathlib.Core.Logic.{inr}
+use mathlib.Core.List.{List, [], _∷_, _++_, Perm·refl}
 use mathlib.Core.Path.{_≡_, refl}
 use mathlib.Core.Bool.{Bool, true, false, cond}
 use lib.Dec.{T, leb, eqb, leb→le}
@@ -32,9 +31,10 @@ use Rattle.aggregate_svecf32.specs.Calls.{taken, combined, moved, rowOf, Rows, 
 use Rattle.aggregate_svecf32.specs.declared.Header.{Header}
 use Rattle.aggregate_svecf32.specs.declared.Told.the-variants.{Done, Refused}
 use Rattle.aggregate_svecf32.proofs.Acting.{acts-done, acts-refused}
-use Rattle.dealing.specs.Demand.{Fair, Whole, Takes}
+use Rattle.dealing.specs.Demand.{Fair, Whole, Takes, Tells}
 use Rattle.dealing.specs.Runs.{Store, State, state, here, there, Only, Run, start, elsewhere, begin, feed, meet, carry}
 use Rattle.dealing.specs.Totals.{totals}
+use Rattle.dealing.proofs.Theorem.{dealt}
 
 -- ---- the rows
 
@@ -164,8 +164,8 @@ c0 = state 0 (fresh 32 8)
 r0 : Run (lists x0 x0) (c0 ∷ b0 ∷ a0 ∷ []) []
 r0 =
     let a = begin (start (lists x0 x0)) 0 0 16 tt in
-    let ab = begin a 0 16 16 ((λ e. inr (omega arith)), tt) in
-    begin ab 0 32 8 ((λ e. inr (omega arith)), ((λ e. inr (omega arith)), tt))
+    let ab = begin a 0 16 16 ((λ e i a b c d. omega arith), tt) in
+    begin ab 0 32 8 ((λ e i a b c d. omega arith), ((λ e i a b c d. omega arith), tt))
 
 -- v1 comes to c, which has too few places, and then to a
 r1 : Run (lists x0 x0) (c0 ∷ b0 ∷ a0 ∷ []) []
@@ -238,3 +238,7 @@ trial-totals = refl
 
 pub trial-holds : held a4 y3 ≡ sums
 trial-holds = refl
+
+-- and the theorem tells it
+pub trial-tells : Tells (lists x2 y3) (state 1 a4) 17 rows
+trial-tells = dealt trial rows (Perm·refl rows) 17 trial-takes

@@ -1,12 +1,11 @@
 -- Rows dealt to states: what a run is. A run is any finite sequence of steps, over any number of pairs of lists and of states. Each step that
 -- calls does anything that the promise of that call permits (`Rows`, `Combines`, `Moves` of crates/aggregate_svecf32/specs/Calls.antt),
 -- refusals and open entries included. In quotes is the sentence that the theorem stands for; docs/PROMISES.md has it whole.
-use Prim.Native.Nat.{ℕ, _+_, _≤_}
+use Prim.Native.Nat.{ℕ}
 use mathlib.Core.List.{List, [], _∷_}
-use mathlib.Core.Logic.{_⊎_}
 use mathlib.Core.Path.{_≡_}
 use Rattle.sparse.specs.Vectors.{Vector}
-use Rattle.regions.specs.Regions.{Pair, part}
+use Rattle.regions.specs.Regions.{Pair, part, Apart}
 use Rattle.aggregate_svecf32.specs.States.{fresh}
 use Rattle.aggregate_svecf32.specs.Calls.{Rows, Combines, Moves}
 use Rattle.aggregate_svecf32.specs.declared.Header.{Header}
@@ -38,7 +37,7 @@ Each P (s ∷ ss) = P s × Each P ss
 
 -- "regions that .. never overlap": the region of s does not overlap n places from `start` on in the pair p
 abbrev pub Clear : ℕ → ℕ → ℕ → State → Type 0
-Clear p start n s = s .lists ≡ p → (start + n ≤ s .header .start) ⊎ (s .header .start + s .header .length ≤ start)
+Clear p start n s = s .lists ≡ p → Apart start n (s .header .start) (s .header .length)
 
 -- "nothing else writes" the region of s
 abbrev pub Kept : Store → Store → State → Type 0
