@@ -1,6 +1,5 @@
 -- What the inner calls of the aggregate are handed, and what they promise to the calls above them. A user's promises do not cite these.
 use Prim.Native.Nat.{ℕ, _≤_}
-use mathlib.Core.Bool.{true}
 use mathlib.Core.List.{List, _++_}
 use mathlib.Core.Path.{_≡_}
 use lib.ListN.{length, drop}

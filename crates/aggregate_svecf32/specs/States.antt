@@ -1,6 +1,6 @@
 -- Document 01, "Aggregate states": what a header says of its region, and when it is consistent.
-use Prim.Native.Nat.{ℕ, _-_}
-use mathlib.Core.Bool.{Bool, true, false, not, cond, _&&_, _||_}
+use Prim.Native.Nat.{ℕ}
+use mathlib.Core.Bool.{Bool, true, false, not, cond, _&&_}
 use lib.Dec.{leb, ltb, eqb}
 use Rattle.refusal.specs.Numbers.{ROOM, STATE}
 use Rattle.refusal.specs.Answers.{refuse}

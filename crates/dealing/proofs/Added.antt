@@ -5,7 +5,7 @@ use mathlib.Core.Bool.{Bool, true, _&&_}
 use mathlib.Core.List.{List, [], _∷_, _++_}
 use mathlib.Core.Path.{_≡_, refl, sym, ap, ap₂, _∙_}
 use lib.Dec.{T, eqb}
-use lib.IntN.{ℤ, natAbs, _+ℤ_, +ℤ-idr, +ℤ-comm}
+use lib.IntN.{+ℤ-idr, +ℤ-comm}
 use lib.Ieee.{binary32, fits}
 use lib.Ieee.Fits.{and-i, and-l, and-r}
 use borrow.Author.Tests.{eq-eqb}
@@ -13,11 +13,10 @@ use Rattle.whole.specs.Whole.{integral}
 use Rattle.whole.specs.Sums.{all}
 use Rattle.whole.proofs.Folds.{size-sum, all-append}
 use Rattle.refusal.specs.declared.Checked.the-variants.{Valid}
-use Rattle.sparse.specs.Vectors.{Vector, vector, at, vectorOf}
+use Rattle.sparse.specs.Vectors.{Vector, vector, at}
 use Rattle.sparse.specs.Calls.{checkedOf}
 use Rattle.sparse.specs.Numbers.{numberAt}
 use Rattle.sparse.specs.Walk.{Sound}
-use Rattle.sparse.specs.declared.Cell.{Cell}
 use Rattle.sparse.proofs.Checks.{sound}
 use Rattle.sparse.proofs.Entries.{entries-same}
 use Rattle.sparse.proofs.Slices.{rebuilt}

@@ -1,24 +1,21 @@
 -- A state that took in certain rows, and what row, combine and move make of it. Assumes nothing.
-use Prim.Native.Nat.{ℕ, _+_, _≤_}
+use Prim.Native.Nat.{ℕ, _≤_}
 use native.Mathlib.Omega.{arith}
-use mathlib.Core.Bool.{Bool, true, false, cond, true≢false}
+use mathlib.Core.Bool.{true, false}
 use mathlib.Core.List.{List, [], _∷_, _++_, append-nil}
-use mathlib.Core.Path.{_≡_, refl, sym, ap, ap₂, _∙_, subst, subst₂}
+use mathlib.Core.Path.{_≡_, refl, ap₂, subst}
 use lib.ListN.{length, length-append}
 use borrow.Author.Tests.{eqb-true}
-use Rattle.refusal.specs.Answers.{next}
 use Rattle.refusal.specs.declared.Checked.{Checked}
 use Rattle.refusal.specs.declared.Checked.the-variants.{Valid, Refused}
-use Rattle.refusal.proofs.Chains.{next-valid}
 use Rattle.sparse.specs.Vectors.{Vector, vector}
-use Rattle.sparse.specs.Calls.{checkedOf}
 use Rattle.regions.specs.Capacity.{capacityFor}
 use Rattle.regions.specs.Regions.{Pair, part, Apart}
 use Rattle.regions.proofs.Apart.{stands-apart, part-kept, part-inside}
 use Rattle.regions.proofs.Capacities.{cap-pos}
 use Rattle.aggregate_svecf32.specs.States.{held, stateOf}
-use Rattle.aggregate_svecf32.specs.Calls.{Deed, Acts, beginOf, begun, mergeOf, merged, takeOf, taken}
-use Rattle.aggregate_svecf32.specs.Calls.{rowOf, Rows, combineOf, combined, Combines, moveOf, moved, Moves}
+use Rattle.aggregate_svecf32.specs.Calls.{Deed, Acts, begun, merged, takeOf, taken}
+use Rattle.aggregate_svecf32.specs.Calls.{rowOf, Rows, combineOf, combined, Combines, moveOf, Moves}
 use Rattle.aggregate_svecf32.specs.declared.Header.{Header}
 use Rattle.aggregate_svecf32.specs.declared.Told.{Told}
 use Rattle.aggregate_svecf32.specs.declared.Told.the-variants.{Done, Refused as Stayed}

@@ -1,12 +1,10 @@
 -- In any run no two regions overlap, each state took in some of the rows, and together they took in all. Assumes nothing.
-use Prim.Native.Nat.{ℕ, _+_, _≤_}
+use Prim.Native.Nat.{ℕ}
 use native.Mathlib.Decide.{ℕ-discrete}
-use native.Mathlib.Omega.{arith}
-use mathlib.Core.Bool.{true, false}
 use mathlib.Core.List.{List, [], _∷_, _++_, append-assoc, Perm, Perm·cons, Perm·trans, Perm·refl, Perm·append-left, Perm·append-right, perm-append-comm}
-use mathlib.Core.Path.{_≡_, refl, sym, _∙_, subst}
+use mathlib.Core.Path.{_≡_, refl, sym}
 use Rattle.sparse.specs.Vectors.{Vector}
-use Rattle.regions.specs.Regions.{Pair, part}
+use Rattle.regions.specs.Regions.{Pair}
 use Rattle.aggregate_svecf32.specs.States.{fresh}
 use Rattle.aggregate_svecf32.specs.Calls.{Rows, Combines, Moves}
 use Rattle.aggregate_svecf32.specs.declared.Header.{Header}

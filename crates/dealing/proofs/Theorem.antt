@@ -1,5 +1,5 @@
 -- THE THEOREM: dealing, order and tree change no bit. Assumes nothing.
-use Prim.Native.Nat.{ℕ, zero, suc, _+_, _≤_, _<_}
+use Prim.Native.Nat.{ℕ, zero, suc, _≤_, _<_}
 use native.Mathlib.Omega.{arith}
 use mathlib.Core.Bool.{Bool, true, false, cond}
 use mathlib.Core.List.{List, [], _∷_, _++_, append-nil, Perm, Perm·refl, Perm·symm, Perm·map, Perm·eq-nil}
@@ -14,9 +14,8 @@ use Rattle.whole.specs.Sums.{all}
 use Rattle.whole.proofs.Folds.{size-sum, perm-sum, perm-weight, perm-all, perm-length}
 use Rattle.refusal.specs.declared.Checked.{Checked}
 use Rattle.refusal.specs.declared.Checked.the-variants.{Valid}
-use Rattle.refusal.specs.declared.Written.{Written}
 use Rattle.sparse.specs.Cells.{indexOf, indexesBelow}
-use Rattle.sparse.specs.Vectors.{Vector, vector, size, at, vectorOf}
+use Rattle.sparse.specs.Vectors.{Vector, vector, size, at}
 use Rattle.sparse.specs.Calls.{checkedOf, roomOf, Leaves}
 use Rattle.sparse.specs.Numbers.{numberAt}
 use Rattle.sparse.specs.declared.Cell.the-variants.{Empty, Full}
@@ -25,13 +24,13 @@ use Rattle.sparse.proofs.Meaning.{at-below}
 use Rattle.sparse.proofs.Writes.{one-writes}
 use Rattle.regions.specs.Regions.{Pair}
 use Rattle.aggregate_svecf32.specs.States.{passes, held, stateOf}
-use Rattle.aggregate_svecf32.specs.Calls.{finishOf, over, shared, Sums, Averages}
+use Rattle.aggregate_svecf32.specs.Calls.{finishOf, over, shared}
 use Rattle.aggregate_svecf32.specs.declared.Header.{Header}
 use Rattle.aggregate_svecf32.proofs.Consistent.{state-sure}
 use Rattle.dealing.specs.Runs.{Store, State, Run}
-use Rattle.dealing.specs.Totals.{numbersAt, totalAt, weightAt, entry, total, share, totals, averages}
-use Rattle.dealing.specs.Demand.{Fair, Whole, Takes, Gives, Tells, Alike}
-use Rattle.dealing.proofs.Added.{SumOf, sum-totals}
+use Rattle.dealing.specs.Totals.{numbersAt, totalAt, entry, total, share, totals, averages}
+use Rattle.dealing.specs.Demand.{Fair, Whole, Takes, Tells, Alike}
+use Rattle.dealing.proofs.Added.{sum-totals}
 use Rattle.dealing.proofs.Holding.{Holding, bare, full}
 use Rattle.dealing.proofs.Owning.{Owns, none, more, owns}
 use Rattle.dealing.proofs.Quotients.{over-entry}

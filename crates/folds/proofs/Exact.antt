@@ -1,19 +1,15 @@
 -- Dot and L2 of whole numbers are exact where the terms' magnitudes add up to at most 16,777,216. Assumes nothing.
-use Prim.Native.Nat.{ℕ, zero, suc, _≤_, _<_}
+use Prim.Native.Nat.{ℕ, zero, suc, _≤_}
 use native.Mathlib.Omega.{arith}
-use mathlib.Core.Bool.{Bool, true, false, cond}
-use mathlib.Core.List.{List, [], _∷_}
 use mathlib.Core.Path.{_≡_, refl, ap}
-use lib.Dec.{T, eqb}
 use lib.IntN.{ℤ, pos, natAbs, _+ℤ_, _-ℤ_, _*ℤ_, +ℤ-idr}
-use lib.ListN.{length, getD}
-use lib.Ieee.{Float, nan, binary32, ofInt, add, sub, mul, neg}
+use lib.Ieee.{binary32, ofInt, add, sub, mul, neg}
 use Rattle.whole.specs.Whole.{integral, integer, Holds}
 use Rattle.whole.proofs.Sizes.{size-add, size-mul, size-zero, square-le}
 use Rattle.whole.proofs.Holds.{holds-ofInt, holds-sub, holds-mul, add-exact}
 use Rattle.whole.proofs.Numbers as numbers
 use Rattle.whole.proofs.Numbers.{integral-holds}
-use Rattle.sparse.specs.Cells.{zero32, look, foldBelow}
+use Rattle.sparse.specs.Cells.{zero32, foldBelow}
 use Rattle.sparse.specs.Vectors.{Vector, at}
 use Rattle.sparse.specs.Numbers.{Whole, numberAt}
 use Rattle.sparse.specs.declared.Cell.{Cell}

@@ -1,5 +1,4 @@
 -- What the loops that sum are handed. A user's promises do not cite this.
-use Prim.Native.Nat.{ℕ}
 use Rattle.sparse.specs.Vectors.{Vector}
 use Rattle.sparse.specs.Walk.{Sound}
 

@@ -1,6 +1,5 @@
 -- Document 01, "Sparse algebra": dot, L2 and the three sums, step by step over the places in rising order. "All float steps are
 -- binary32, nearest, ties to even."
-use Prim.Native.Nat.{ℕ}
 use lib.Ieee.{Float, binary32, add, sub, mul, neg}
 use Rattle.sparse.specs.Cells.{zero32, foldBelow}
 use Rattle.sparse.specs.Vectors.{Vector, at}

@@ -1,6 +1,6 @@
 -- Document 01, "Aggregate states": the turns of a row that merges into a state.
 use Prim.Native.Nat.{ℕ}
-use mathlib.Core.Bool.{Bool, _&&_}
+use mathlib.Core.Bool.{_&&_}
 use lib.Dec.{leb}
 use lib.ListN.{getD}
 use Rattle.places.specs.Below.{countBelow}

@@ -3,7 +3,7 @@ use Prim.Native.Nat.{ℕ}
 use native.Mathlib.Omega.{arith}
 use mathlib.Core.Bool.{Bool, true, false, cond}
 use mathlib.Core.List.{List, [], _∷_}
-use mathlib.Core.Path.{_≡_, refl}
+use mathlib.Core.Path.{_≡_}
 use lib.Dec.{T, eqb}
 use lib.Ieee.{Float}
 use lib.Ieee.Fits.{and-l, and-r}
@@ -11,7 +11,7 @@ use Rattle.whole.specs.Sums.{all}
 use Rattle.sparse.specs.Cells.{look}
 use Rattle.sparse.specs.Vectors.{Vector, at}
 use Rattle.sparse.specs.declared.Cell.{Cell}
-use Rattle.sparse.specs.declared.Cell.the-variants.{Empty, Full}
+use Rattle.sparse.specs.declared.Cell.the-variants.{Full}
 
 -- a cell that holds nothing that fails the test
 abbrev pub Passing : (Float → Bool) → Cell → Type 0

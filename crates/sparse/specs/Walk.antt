@@ -1,5 +1,5 @@
 -- What the walk over two vectors' entries goes by, and what its parts promise to the loops. A user's promises do not cite these.
-use Prim.Native.Nat.{ℕ, suc, _+_, _≤_, _<_}
+use Prim.Native.Nat.{ℕ, _+_, _≤_, _<_}
 use mathlib.Core.Bool.{false}
 use mathlib.Core.List.{List}
 use mathlib.Core.Logic.{_⊎_}

@@ -9,7 +9,6 @@ use Rattle.refusal.specs.Numbers.{DIMS, BOUNDS}
 use Rattle.refusal.specs.Answers.{refuse, next, Answers, Asks, Orders, writtenSays, writtenOf}
 use Rattle.refusal.specs.Bounds.{startOf, endOf, badBounds}
 use Rattle.refusal.specs.declared.Bound.{Bound}
-use Rattle.refusal.specs.declared.Checked.{Checked}
 use Rattle.refusal.specs.declared.Checked.the-variants.{Valid}
 use Rattle.refusal.specs.declared.Written.{Written}
 use Rattle.refusal.specs.declared.Asked.{Asked}
