@@ -1,0 +1,51 @@
+// Deals the same rows to 1, 2, 3, 8 and 64 states, in several orders, and combines the states in several trees.
+// For each setting it prints a line that says what the setting is and what happened, and a line with the count,
+// the sum and the average, their bits as eight digits. The rows are whole numbers, so the second line is the same
+// each time. At the end the values are thirds, for which nothing is promised, and the lines differ.
+
+mod rows;
+mod settings;
+mod show;
+mod states;
+mod table;
+
+use settings::Setting;
+use states::Indexes;
+use states::Values;
+
+// Runs one setting.
+fn run(s: Setting, ai: &mut Indexes, av: &mut Values, bi: &mut Indexes, bv: &mut Values) {
+    let dealt = table::deal_rows(table::empty(), s, ai, av, bi, bv);
+    let t = table::combine(dealt, s, ai, av, bi, bv);
+    show::setting(s, t.tally);
+    let root = settings::root(s);
+    if root >= table::STATES {
+        return;
+    }
+    let total = t.states[root];
+    if total.in_b {
+        show::total(total.header, bi, bv);
+        return;
+    }
+    show::total(total.header, ai, av);
+}
+
+// Runs the settings of whole rows.
+fn run_all(ai: &mut Indexes, av: &mut Values, bi: &mut Indexes, bv: &mut Values) {
+    let mut k: usize = 0;
+    while k < settings::SETTINGS {
+        run(settings::whole(k), ai, av, bi, bv);
+        k += 1;
+    }
+}
+
+// The lists start with entries that belong to no state.
+fn main() {
+    let mut ai = [4294967295u32; 3072];
+    let mut av = [9.0f32; 3072];
+    let mut bi = [4294967295u32; 3072];
+    let mut bv = [9.0f32; 3072];
+    run_all(&mut ai, &mut av, &mut bi, &mut bv);
+    run(settings::thirds(1), &mut ai, &mut av, &mut bi, &mut bv);
+    run(settings::thirds(8), &mut ai, &mut av, &mut bi, &mut bv);
+}
