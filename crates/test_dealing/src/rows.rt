@@ -58,7 +58,10 @@ pub fn row(r: usize, thirds: bool, indexes: &mut [u32; 12], values: &mut [f32; 1
     let mut i = mixed(r % HALF, 2) % 6;
     let mut at: usize = 0;
     while at < 12 {
-        if at >= n || i >= 48 {
+        if n <= at {
+            break;
+        }
+        if 48 <= i {
             break;
         }
         indexes[at] = i as u32;

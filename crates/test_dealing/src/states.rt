@@ -114,7 +114,7 @@ fn row(s: State, ai: &mut [u32], av: &mut [f32], xi: &[u32], xv: &[f32], t: Tall
 }
 
 // Feeds a row to a state. On NEED the state moves, and is fed again.
-pub fn feed(
+fn feed_row(
     s: State,
     ai: &mut Indexes,
     av: &mut Values,
@@ -133,6 +133,29 @@ pub fn feed(
         return moved;
     }
     row(moved.state, bi, bv, xi, xv, moved.tally)
+}
+
+// Feeds to a state the row of the first n entries of two lists.
+pub fn feed(
+    s: State,
+    ai: &mut Indexes,
+    av: &mut Values,
+    bi: &mut Indexes,
+    bv: &mut Values,
+    xi: &[u32],
+    xv: &[f32],
+    n: usize,
+    t: Tally,
+) -> Step {
+    if n <= xi.len() {
+        if n <= xv.len() {
+            return feed_row(s, ai, av, bi, bv, &xi[0..n], &xv[0..n], t);
+        }
+    }
+    Step {
+        state: s,
+        tally: t.refused(refusal::ROOM, n),
+    }
 }
 
 // Combines a second state, which lies in the other pair, into a state.

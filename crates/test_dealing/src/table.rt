@@ -39,21 +39,22 @@ pub fn empty() -> Table {
     }
 }
 
-// Feeds a row to a state.
+// Feeds to a state the row of the first n entries of two lists.
 fn feed(
     s: State,
     ai: &mut Indexes,
     av: &mut Values,
     bi: &mut Indexes,
     bv: &mut Values,
-    xi: &[u32],
-    xv: &[f32],
+    xi: &[u32; 12],
+    xv: &[f32; 12],
+    n: usize,
     t: Tally,
 ) -> Step {
     if s.in_b {
-        return states::feed(s, bi, bv, ai, av, xi, xv, t);
+        return states::feed(s, bi, bv, ai, av, xi, xv, n, t);
     }
-    states::feed(s, ai, av, bi, bv, xi, xv, t)
+    states::feed(s, ai, av, bi, bv, xi, xv, n, t)
 }
 
 // Feeds row r to a state.
@@ -70,10 +71,7 @@ fn feed_row(
     let mut xi = [0u32; 12];
     let mut xv = [0.0f32; 12];
     let n = rows::row(r, thirds, &mut xi, &mut xv);
-    if n > 12 {
-        return Step { state: s, tally: t };
-    }
-    feed(s, ai, av, bi, bv, &xi[..n], &xv[..n], t)
+    feed(s, ai, av, bi, bv, &xi, &xv, n, t)
 }
 
 // Deals the rows of a setting, up to the first refusal.
@@ -91,7 +89,11 @@ pub fn deal_rows(
     while k < rows::ROWS {
         let r = settings::row_at(s, k);
         let i = settings::state_of(s, r);
-        if i >= STATES || tally.number != refusal::DONE {
+        k += 1;
+        if tally.number != refusal::DONE {
+            break;
+        }
+        if STATES <= i {
             break;
         }
         let state = states[i];
@@ -99,7 +101,6 @@ pub fn deal_rows(
         let next = step.state;
         states[i] = next;
         tally = step.tally;
-        k += 1;
     }
     Table {
         states: states,
@@ -140,7 +141,14 @@ pub fn combine(
         let p = settings::pair_at(s, k);
         let i = p.one;
         let j = p.other;
-        if i >= STATES || j >= STATES || tally.number != refusal::DONE {
+        k += 1;
+        if tally.number != refusal::DONE {
+            break;
+        }
+        if STATES <= i {
+            break;
+        }
+        if STATES <= j {
             break;
         }
         let one = states[i];
@@ -149,7 +157,6 @@ pub fn combine(
         let next = step.state;
         states[i] = next;
         tally = step.tally;
-        k += 1;
     }
     Table {
         states: states,
