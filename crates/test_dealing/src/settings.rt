@@ -47,13 +47,13 @@ pub struct Pair {
     pub other: usize,
 }
 
-// How many states setting k has. The three with 1 have no more to vary than the order.
+// How many states setting k has.
 fn nth_states(k: usize) -> usize {
-    match k {
-        0..=2 => 1,
-        3..=8 => 2,
-        9..=14 => 3,
-        15..=20 => 8,
+    match k / 4 {
+        0 => 1,
+        1 => 2,
+        2 => 3,
+        3 | 4 => 8,
         _ => 64,
     }
 }
@@ -84,13 +84,13 @@ fn nth_tree(k: usize) -> Tree {
     }
 }
 
-pub const SETTINGS: usize = 27;
+pub const SETTINGS: usize = 28;
 
-// Setting k. Any four that follow one another have all deals and all trees, any three all orders.
+// Setting k. Each four of them have all deals and all trees, each three all orders.
 pub fn whole(k: usize) -> Setting {
     Setting {
         states: nth_states(k),
-        deal: nth_deal(k % 4 + k / 4),
+        deal: nth_deal(k % 4 + k / 4 + 2),
         order: nth_order(k),
         tree: nth_tree(k),
         thirds: false,

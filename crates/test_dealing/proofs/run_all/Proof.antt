@@ -9,7 +9,7 @@ abbrev Inv-loop : tie.InvT-loop
 Inv-loop ai₀ av₀ bi₀ bv₀ k₀ ai av bi bv k = Unit
 
 abbrev μ-loop : tie.MeasureT-loop
-μ-loop ai₀ av₀ bi₀ bv₀ k₀ ai av bi bv k = 27 - k
+μ-loop ai₀ av₀ bi₀ bv₀ k₀ ai av bi bv k = 28 - k
 
 loop-holds : tie.Need-loop-holds Inv-loop μ-loop
 loop-holds c = tt
