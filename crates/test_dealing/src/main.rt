@@ -17,11 +17,8 @@ use states::Values;
 fn run(s: Setting, ai: &mut Indexes, av: &mut Values, bi: &mut Indexes, bv: &mut Values) {
     let dealt = table::deal_rows(table::empty(), s, ai, av, bi, bv);
     let t = table::combine(dealt, s, ai, av, bi, bv);
-    show::setting(s, t.tally);
+    show::run(s, t.tally);
     let root = settings::root(s);
-    if root >= table::STATES {
-        return;
-    }
     let total = t.states[root];
     if total.in_b {
         show::total(total.header, bi, bv);

@@ -2,7 +2,7 @@
 // order the states are combined.
 
 use crate::rows;
-ghost use Prim.Native.Nat.{_<_};
+ghost use Prim.Native.Nat.{_<_, _≤_};
 
 pub enum Deal {
     // The rows go round the states.
@@ -145,7 +145,9 @@ fn block(n: usize) -> usize
 }
 
 // The state that row r goes to.
-pub fn state_of(s: Setting, r: usize) -> usize {
+pub fn state_of(s: Setting, r: usize) -> usize
+    ensures { λ r. ⌜ r < 64 ⌝ }
+{
     let n = s.states;
     let deal = s.deal;
     match deal {
@@ -156,45 +158,56 @@ pub fn state_of(s: Setting, r: usize) -> usize {
     }
 }
 
-// The k-th combine of a setting, counted from 1.
-pub fn pair_at(s: Setting, k: usize) -> Pair {
-    let n = s.states;
-    if n <= k {
-        return Pair { one: 0, other: 0 };
-    }
-    let left = n - k;
-    if left == n {
-        return Pair { one: 0, other: 0 };
-    }
-    let tree = s.tree;
+// The k-th combine of so many states, counted from 1.
+fn pair_of(tree: Tree, n: usize, k: usize) -> Pair
+    requires { ⌜ (0 < k) × (k < n) × (n ≤ 64) ⌝ }
+    ensures { λ r. ⌜ (r .one < 64) × (r .other < 64) ⌝ }
+{
     match tree {
         Tree::First => Pair { one: 0, other: k },
         Tree::Last => Pair {
             one: n - 1,
-            other: left - 1,
+            other: n - 1 - k,
         },
         Tree::Passed => Pair {
-            one: left - 1,
-            other: left,
+            one: n - 1 - k,
+            other: n - k,
         },
         Tree::Balanced => Pair {
-            one: (left - 1) / 2,
-            other: left,
+            one: (n - 1 - k) / 2,
+            other: n - k,
         },
     }
 }
 
-// The state that has all rows after the last combine.
-pub fn root(s: Setting) -> usize {
-    let n = s.states;
+// The k-th combine of a setting, counted from 1.
+pub fn pair_at(s: Setting, k: usize) -> Pair
+    ensures { λ r. ⌜ (r .one < 64) × (r .other < 64) ⌝ }
+{
     let tree = s.tree;
-    match tree {
-        Tree::Last => {
-            if n == 0 {
-                return 0;
+    let n = s.states;
+    if n <= 64 {
+        if k < n {
+            if 0 < k {
+                return pair_of(tree, n, k);
             }
-            n - 1
         }
-        _ => 0,
     }
+    Pair { one: 0, other: 0 }
+}
+
+// The state that has all rows after the last combine.
+pub fn root(s: Setting) -> usize
+    ensures { λ r. ⌜ r < 64 ⌝ }
+{
+    let tree = s.tree;
+    let n = s.states;
+    if let Tree::Last = tree {
+        if 0 < n {
+            if n <= 64 {
+                return n - 1;
+            }
+        }
+    }
+    0
 }

@@ -4,7 +4,7 @@ use crate::settings::Deal;
 use crate::settings::Order;
 use crate::settings::Setting;
 use crate::settings::Tree;
-use crate::states::Tally;
+use crate::table::Tally;
 use aggregate_svecf32::Header;
 use refusal::Written;
 
@@ -34,29 +34,40 @@ fn tree(t: Tree) {
     }
 }
 
-// What a setting is, and what happened in it.
-pub fn setting(s: Setting, t: Tally) {
+// What a setting is. One state is dealt all rows and takes no other.
+fn setting(s: Setting) {
+    let d = s.deal;
+    let o = s.order;
+    let t = s.tree;
     if s.thirds {
         shown::text(b"not whole: ");
     }
     shown::text(b"states");
     shown::number(s.states as u64);
-    let d = s.deal;
-    let o = s.order;
-    let r = s.tree;
-    deal(d);
     order(o);
-    tree(r);
-    shown::text(b"; NEED by rows");
-    shown::number(t.needs as u64);
-    shown::text(b", moves");
-    shown::number(t.moves as u64);
+    if s.states != 1 {
+        deal(d);
+        tree(t);
+    }
+}
+
+// What happened in a setting.
+fn tally(t: Tally) {
+    shown::text(b"; moves for rows");
+    shown::number(t.rows as u64);
+    shown::text(b", for combines");
+    shown::number(t.combines as u64);
     shown::text(b", changes of pair");
     shown::number(t.changes as u64);
     if t.number != refusal::DONE {
         shown::refused(t.number, t.place);
     }
     shown::text(b"\n");
+}
+
+pub fn run(s: Setting, t: Tally) {
+    setting(s);
+    tally(t);
 }
 
 fn entry(index: u32, value: f32) {

@@ -21,11 +21,11 @@ pair-at-requires c κs = search needs
 add-k : tie.Need-add-k Inv-loop μ-loop
 add-k c = omega arith
 
-mul-one : tie.Need-mul-one Inv-loop μ-loop
-mul-one c = omega arith
+mul-state : tie.Need-mul-state Inv-loop μ-loop
+mul-state c = omega arith
 
-array-copy-out-one : tie.Need-array-copy-out-one Inv-loop μ-loop
-array-copy-out-one c = omega arith
+array-copy-out-state : tie.Need-array-copy-out-state Inv-loop μ-loop
+array-copy-out-state c = omega arith
 
 mul-other : tie.Need-mul-other Inv-loop μ-loop
 mul-other c = omega arith
@@ -42,6 +42,9 @@ mul-states c = omega arith
 array-set-from-states : tie.Need-array-set-from-states Inv-loop μ-loop
 array-set-from-states c = omega arith
 
+joined-requires : tie.Need-joined-requires Inv-loop μ-loop
+joined-requires c κs = search needs
+
 loop-less : tie.Need-loop-less Inv-loop μ-loop
 loop-less c = omega arith
 
@@ -54,12 +57,6 @@ returns c = search needs
 returns-2 : tie.Need-returns-2 Inv-loop μ-loop
 returns-2 c = search needs
 
-returns-3 : tie.Need-returns-3 Inv-loop μ-loop
-returns-3 c = search needs
-
-returns-4 : tie.Need-returns-4 Inv-loop μ-loop
-returns-4 c = search needs
-
 pub combine-spec : {M : Type 1} → statement M
 combine-spec =
     tie.close
@@ -69,16 +66,15 @@ combine-spec =
     loop-holds
     pair-at-requires
     add-k
-    mul-one
-    array-copy-out-one
+    mul-state
+    array-copy-out-state
     mul-other
     array-copy-out-other
     join-requires
     mul-states
     array-set-from-states
+    joined-requires
     loop-less
     loop-again
     returns
-    returns-2
-    returns-3
-    returns-4)
+    returns-2)

@@ -20,11 +20,11 @@ loop-holds c = tt
 row-at-requires : tie.Need-row-at-requires Inv-loop μ-loop
 row-at-requires c κs = search needs
 
-state-of-requires : tie.Need-state-of-requires Inv-loop μ-loop
-state-of-requires c κs = search needs
-
 add-k : tie.Need-add-k Inv-loop μ-loop
 add-k c = omega arith
+
+state-of-requires : tie.Need-state-of-requires Inv-loop μ-loop
+state-of-requires c κs = search needs
 
 mul-state : tie.Need-mul-state Inv-loop μ-loop
 mul-state c = omega arith
@@ -41,6 +41,9 @@ mul-states c = omega arith
 array-set-from-states : tie.Need-array-set-from-states Inv-loop μ-loop
 array-set-from-states c = omega arith
 
+fed-requires : tie.Need-fed-requires Inv-loop μ-loop
+fed-requires c κs = search needs
+
 loop-less : tie.Need-loop-less Inv-loop μ-loop
 loop-less c = omega arith
 
@@ -53,9 +56,6 @@ returns c = search needs
 returns-2 : tie.Need-returns-2 Inv-loop μ-loop
 returns-2 c = search needs
 
-returns-3 : tie.Need-returns-3 Inv-loop μ-loop
-returns-3 c = search needs
-
 pub deal-rows-spec : {M : Type 1} → statement M
 deal-rows-spec =
     tie.close
@@ -64,15 +64,15 @@ deal-rows-spec =
     μ-loop
     loop-holds
     row-at-requires
-    state-of-requires
     add-k
+    state-of-requires
     mul-state
     array-copy-out-state
     feed-row-requires
     mul-states
     array-set-from-states
+    fed-requires
     loop-less
     loop-again
     returns
-    returns-2
-    returns-3)
+    returns-2)
