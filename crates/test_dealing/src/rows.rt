@@ -9,7 +9,7 @@ pub const DIMS: u32 = 48;
 // Rows r and HALF + r have the same indexes.
 const HALF: usize = 1000;
 
-// A number below 65,519 that two numbers stir up.
+// A number below 65,519 that looks random, made of two numbers.
 pub fn mixed(a: usize, b: usize) -> usize {
     let x = a % 10007 * 6199 + b % 10007 * 2897 + 13;
     let y = (x ^ (x >> 7)) % 65521 * 48271;
@@ -41,7 +41,7 @@ fn whole(r: usize, i: usize) -> f32 {
     }
 }
 
-// A third of it, where the rows are to be no whole numbers.
+// What row r has at index i, or a third of that.
 fn value(r: usize, i: usize, thirds: bool) -> f32 {
     let x = whole(r, i);
     if thirds { x / 3.0 } else { x }

@@ -11,8 +11,8 @@ pub enum Deal {
     Blocks,
     // A scrambled number says which, and the first states have more rows than the last.
     Scrambled,
-    // Every seventh state has rows, and the others have none.
-    Sevenths,
+    // The first state has nearly all rows, each other even one at most two, and the odd ones none.
+    Few,
 }
 
 pub enum Order {
@@ -63,7 +63,7 @@ fn nth_deal(k: usize) -> Deal {
         0 => Deal::Turns,
         1 => Deal::Blocks,
         2 => Deal::Scrambled,
-        _ => Deal::Sevenths,
+        _ => Deal::Few,
     }
 }
 
@@ -84,9 +84,9 @@ fn nth_tree(k: usize) -> Tree {
     }
 }
 
-pub const SETTINGS: usize = 28;
+pub const SETTINGS: usize = 27;
 
-// Setting k. Each four of them have all deals and all trees, each three all orders.
+// Setting k, counted from 1. With each number of states from 2 on, all deals, all orders and all trees occur.
 pub fn whole(k: usize) -> Setting {
     Setting {
         states: nth_states(k),
@@ -146,7 +146,7 @@ fn block(n: usize) -> usize
 
 // The state that row r goes to.
 pub fn state_of(s: Setting, r: usize) -> usize
-    ensures { λ r. ⌜ r < 64 ⌝ }
+    ensures { λ i. ⌜ i < 64 ⌝ }
 {
     let n = s.states;
     let deal = s.deal;
@@ -154,7 +154,7 @@ pub fn state_of(s: Setting, r: usize) -> usize
         Deal::Turns => modulo(r, n),
         Deal::Blocks => modulo(r / block(n), n),
         Deal::Scrambled => modulo(rows::mixed(r, 7), 1 + modulo(rows::mixed(r, 8), n)),
-        Deal::Sevenths => modulo(r, n) / 7 * 7,
+        Deal::Few => { if r < n { modulo(r / 2 * 2, 64) } else { 0 } }
     }
 }
 

@@ -13,7 +13,7 @@ fn deal(d: Deal) {
         Deal::Turns => shown::text(b", dealt in turns"),
         Deal::Blocks => shown::text(b", dealt in blocks"),
         Deal::Scrambled => shown::text(b", dealt scrambled"),
-        Deal::Sevenths => shown::text(b", dealt to every seventh"),
+        Deal::Few => shown::text(b", dealt nearly all to the first"),
     }
 }
 
@@ -57,8 +57,8 @@ fn tally(t: Tally) {
     shown::number(t.rows as u64);
     shown::text(b", for combines");
     shown::number(t.combines as u64);
-    shown::text(b", changes of pair");
-    shown::number(t.changes as u64);
+    shown::text(b", seconds brought over");
+    shown::number(t.brought as u64);
     if t.number != refusal::DONE {
         shown::refused(t.number, t.place);
     }

@@ -52,11 +52,15 @@ fn move_over(
     bv: &mut [f32],
 ) -> Step {
     let h = s.header;
-    step_of(h.move_to(ai, av, more, bi, bv, h.start, h.length), s, !s.in_b)
+    step_of(
+        h.move_to(ai, av, more, bi, bv, h.start, h.length),
+        s,
+        !s.in_b,
+    )
 }
 
 // Brings a state to the other pair as it is: a state without rows takes it there.
-fn change(s: State, ai: &[u32], av: &[f32], bi: &mut [u32], bv: &mut [f32]) -> Step {
+fn bring(s: State, ai: &[u32], av: &[f32], bi: &mut [u32], bv: &mut [f32]) -> Step {
     let h = s.header;
     let fresh = aggregate_svecf32::fresh(h.start, h.length);
     step_of(fresh.combine(bi, bv, h, ai, av), s, !s.in_b)
@@ -111,18 +115,31 @@ pub fn feed(
 }
 
 // Combines a second state, which lies in the other pair, into a state.
-fn take(
-    s: State,
-    ai: &mut [u32],
-    av: &mut [f32],
-    other: State,
-    bi: &[u32],
-    bv: &[f32],
-) -> Step {
+fn take(s: State, ai: &mut [u32], av: &mut [f32], other: State, bi: &[u32], bv: &[f32]) -> Step {
     step_of(s.header.combine(ai, av, other.header, bi, bv), s, s.in_b)
 }
 
-// The same. On NEED the state moves to the other pair, the second changes with it, and they are combined there.
+// Moves a state to the other pair, brings the second, which lay there, to this one, and combines them.
+fn move_and_take(
+    s: State,
+    ai: &mut Indexes,
+    av: &mut Values,
+    other: State,
+    bi: &mut Indexes,
+    bv: &mut Values,
+) -> Step {
+    let moved = move_over(s, ai, av, other.header.len, bi, bv);
+    if moved.number != refusal::DONE {
+        return moved;
+    }
+    let brought = bring(other, bi, bv, ai, av);
+    if brought.number != refusal::DONE {
+        return brought;
+    }
+    take(moved.state, bi, bv, brought.state, ai, av)
+}
+
+// Combines a second state, which lies in the other pair, into a state. On NEED the state moves.
 fn take_with_room(
     s: State,
     ai: &mut Indexes,
@@ -135,15 +152,7 @@ fn take_with_room(
     if taken.number != refusal::NEED {
         return taken;
     }
-    let moved = move_over(s, ai, av, other.header.len, bi, bv);
-    if moved.number != refusal::DONE {
-        return moved;
-    }
-    let changed = change(other, bi, bv, ai, av);
-    if changed.number != refusal::DONE {
-        return changed;
-    }
-    take(moved.state, bi, bv, changed.state, ai, av)
+    move_and_take(s, ai, av, other, bi, bv)
 }
 
 // Combines a second state into a state, whichever pair it lies in.
@@ -158,9 +167,9 @@ pub fn join(
     if other.in_b != s.in_b {
         return take_with_room(s, ai, av, other, bi, bv);
     }
-    let changed = change(other, ai, av, bi, bv);
-    if changed.number != refusal::DONE {
-        return changed;
+    let brought = bring(other, ai, av, bi, bv);
+    if brought.number != refusal::DONE {
+        return brought;
     }
-    take_with_room(s, ai, av, changed.state, bi, bv)
+    take_with_room(s, ai, av, brought.state, bi, bv)
 }

@@ -10,12 +10,12 @@ use crate::states::State;
 use crate::states::Step;
 use crate::states::Values;
 
-// What happened so far: how many states moved to take a row and to take a state, how many second states lay in
-// the pair of the first; and the refusal that ended it, where there was one.
+// What happened so far: how many states moved to take a row and how many to take a state, and how many second
+// states were brought to the other pair; and the refusal that ended it, or DONE.
 pub struct Tally {
     pub rows: usize,
     pub combines: usize,
-    pub changes: usize,
+    pub brought: usize,
     pub number: u32,
     pub place: usize,
 }
@@ -45,7 +45,7 @@ pub fn empty() -> Table {
         tally: Tally {
             rows: 0,
             combines: 0,
-            changes: 0,
+            brought: 0,
             number: refusal::DONE,
             place: 0,
         },
@@ -62,23 +62,25 @@ fn up(n: usize, so: bool) -> usize {
     n
 }
 
-// The tally after a step that fed a row to a state. The state moved if it lies in another pair now.
+// The tally after a row. A state that lies in the other pair now has moved.
 fn fed(t: Tally, s: State, step: Step) -> Tally {
     Tally {
         rows: up(t.rows, step.state.in_b != s.in_b),
         combines: t.combines,
-        changes: t.changes,
+        brought: t.brought,
         number: step.number,
         place: step.place,
     }
 }
 
-// The tally after a step that combined a second state into a state.
+// The tally after a combine. A second state in the first's pair was brought to the other, and so was one to
+// whose pair the first moved.
 fn joined(t: Tally, s: State, other: State, step: Step) -> Tally {
+    let moved = step.state.in_b != s.in_b;
     Tally {
         rows: t.rows,
-        combines: up(t.combines, step.state.in_b != s.in_b),
-        changes: up(t.changes, other.in_b == s.in_b),
+        combines: up(t.combines, moved),
+        brought: up(up(t.brought, other.in_b == s.in_b), moved),
         number: step.number,
         place: step.place,
     }
