@@ -1,0 +1,58 @@
+// Deals the same 2000 rows to 1, 2, 3, 8 and 64 states, in several orders, and combines the states in several
+// trees. For each setting it prints a line that says what the setting is and what happened, and a line with the
+// count, the sum and the average, each value by the eight digits of its bits. The rows are whole numbers, so the
+// second line is the same each time. At the end all values are thirds, for which no such promise is made, and the
+// two lines differ.
+//
+// The states lie in two pairs of lists, A and B. A state moves to the other pair where a row or a combine answers
+// NEED. A second state is brought over to the other pair where it would lie in the pair of the first.
+
+mod rows;
+mod settings;
+mod show;
+mod states;
+mod table;
+
+use settings::Setting;
+use states::Indexes;
+use states::State;
+use states::Values;
+
+// Shows the state that has all rows.
+fn total(s: State, ai: &Indexes, av: &Values, bi: &Indexes, bv: &Values) {
+    if s.in_b {
+        show::total(s.header, bi, bv);
+        return;
+    }
+    show::total(s.header, ai, av);
+}
+
+// Runs one setting.
+fn run(s: Setting, ai: &mut Indexes, av: &mut Values, bi: &mut Indexes, bv: &mut Values) {
+    let dealt = table::deal_rows(table::empty(), s, ai, av, bi, bv);
+    let t = table::combine(dealt, s, ai, av, bi, bv);
+    show::run(s, t.tally);
+    let root = settings::root(s);
+    let last = t.states[root];
+    total(last, ai, av, bi, bv);
+}
+
+// Runs the settings of whole rows.
+fn run_all(ai: &mut Indexes, av: &mut Values, bi: &mut Indexes, bv: &mut Values) {
+    let mut k: usize = 1;
+    while k <= settings::SETTINGS {
+        run(settings::whole(k), ai, av, bi, bv);
+        k += 1;
+    }
+}
+
+// The lists start with entries that belong to no state.
+fn main() {
+    let mut ai = [4294967295u32; 3072];
+    let mut av = [9.0f32; 3072];
+    let mut bi = [4294967295u32; 3072];
+    let mut bv = [9.0f32; 3072];
+    run_all(&mut ai, &mut av, &mut bi, &mut bv);
+    run(settings::thirds(1), &mut ai, &mut av, &mut bi, &mut bv);
+    run(settings::thirds(8), &mut ai, &mut av, &mut bi, &mut bv);
+}
