@@ -1,8 +1,8 @@
 // Deals the same 2000 rows to 1, 2, 3, 8 and 64 states, in several orders, and combines the states in several
 // trees. For each setting it prints a line that says what the setting is and what happened, and a line with the
 // count, the sum and the average, each value by the eight digits of its bits. The rows are whole numbers, so the
-// second line is the same each time. At the end all values are thirds, for which no such promise is made, and the
-// two lines differ.
+// second line is the same each time. Then it adds up the magnitudes: each sum is below 4b800000, the bits of
+// 16,777,216. At the end all values are thirds, for which no such promise is made, and the two lines differ.
 //
 // The states lie in two pairs of lists, A and B. A state moves to the other pair where a row or a combine answers
 // NEED. A second state is brought over to the other pair where it would lie in the pair of the first.
@@ -13,6 +13,7 @@ mod show;
 mod states;
 mod table;
 
+use rows::Kind;
 use settings::Setting;
 use states::Indexes;
 use states::State;
@@ -53,6 +54,7 @@ fn main() {
     let mut bi = [4294967295u32; 3072];
     let mut bv = [9.0f32; 3072];
     run_all(&mut ai, &mut av, &mut bi, &mut bv);
-    run(settings::thirds(1), &mut ai, &mut av, &mut bi, &mut bv);
-    run(settings::thirds(8), &mut ai, &mut av, &mut bi, &mut bv);
+    run(settings::of_kind(Kind::Magnitudes, 1), &mut ai, &mut av, &mut bi, &mut bv);
+    run(settings::of_kind(Kind::Thirds, 1), &mut ai, &mut av, &mut bi, &mut bv);
+    run(settings::of_kind(Kind::Thirds, 8), &mut ai, &mut av, &mut bi, &mut bv);
 }

@@ -1,10 +1,17 @@
 // The rows: each is computed from its number alone, so that they can be walked in any order. A row has 0 to
-// 12 entries, whole numbers between -5000 and 5000. No index comes twice in a row, so that at each index the
-// magnitudes of all the rows add up to at most 2000 * 5000, which is below 16,777,216.
+// 12 entries, whole numbers between -50,000 and 50,000. The magnitudes at an index add up to less than 16,777,216,
+// and at some to nearly as much: the program prints their sums.
 
 pub const ROWS: usize = 2000;
 
 pub const DIMS: u32 = 48;
+
+// The values as they are, their magnitudes, or thirds of them.
+pub enum Kind {
+    Whole,
+    Magnitudes,
+    Thirds,
+}
 
 // Rows r and HALF + r have the same indexes.
 const HALF: usize = 1000;
@@ -25,10 +32,10 @@ fn signed(minus: bool, n: usize) -> f32 {
 // both. At index 5 of each eight a row and the one HALF further cancel out; at index 7 they nearly do.
 fn whole(r: usize, i: usize) -> f32 {
     let n = mixed(r, 100 + i % 48);
-    let m = 1 + mixed(r % HALF, 100 + i % 48) % 4999;
+    let m = 1 + mixed(r % HALF, 100 + i % 48) % 49999;
     match i % 8 {
-        0 | 1 => signed(false, 2500 + n % 2500),
-        2 => signed(true, 2500 + n % 2500),
+        0 | 1 => signed(false, 25000 + n % 25000),
+        2 => signed(true, 25000 + n % 25000),
         5 => signed(r >= HALF, m),
         7 => {
             if r < HALF {
@@ -37,14 +44,17 @@ fn whole(r: usize, i: usize) -> f32 {
                 signed(true, m + 1)
             }
         }
-        _ => signed(n % 2 == 1, 1 + n % 4999),
+        _ => signed(n % 2 == 1, 1 + n % 49999),
     }
 }
 
-// What row r has at index i, or a third of that.
-fn value(r: usize, i: usize, thirds: bool) -> f32 {
-    let x = whole(r, i);
-    if thirds { x / 3.0 } else { x }
+// What a row of this kind has where the row has x.
+fn of_kind(kind: Kind, x: f32) -> f32 {
+    match kind {
+        Kind::Whole => x,
+        Kind::Magnitudes => { if x < 0.0 { -x } else { x } }
+        Kind::Thirds => x / 3.0,
+    }
 }
 
 // The index that follows i.
@@ -53,7 +63,7 @@ fn next(r: usize, i: usize) -> usize {
 }
 
 // Writes row r to the front of two lists, and answers how many entries it has.
-pub fn row(r: usize, thirds: bool, indexes: &mut [u32; 12], values: &mut [f32; 12]) -> usize {
+pub fn row(r: usize, kind: Kind, indexes: &mut [u32; 12], values: &mut [f32; 12]) -> usize {
     let n = mixed(r % HALF, 1) % 13;
     let mut i = mixed(r % HALF, 2) % 6;
     let mut at: usize = 0;
@@ -65,7 +75,7 @@ pub fn row(r: usize, thirds: bool, indexes: &mut [u32; 12], values: &mut [f32; 1
             break;
         }
         indexes[at] = i as u32;
-        values[at] = value(r, i, thirds);
+        values[at] = of_kind(kind, whole(r, i));
         at += 1;
         i = next(r, i);
     }

@@ -2,6 +2,7 @@
 // order the states are combined.
 
 use crate::rows;
+use crate::rows::Kind;
 ghost use Prim.Native.Nat.{_<_, _≤_};
 
 pub enum Deal {
@@ -38,7 +39,7 @@ pub struct Setting {
     pub deal: Deal,
     pub order: Order,
     pub tree: Tree,
-    pub thirds: bool,
+    pub kind: Kind,
 }
 
 // A state, and the one that it takes.
@@ -93,18 +94,18 @@ pub fn whole(k: usize) -> Setting {
         deal: nth_deal(k % 4 + k / 4 + 2),
         order: nth_order(k),
         tree: nth_tree(k),
-        thirds: false,
+        kind: Kind::Whole,
     }
 }
 
-// The same rows, none of them whole, dealt in turns.
-pub fn thirds(states: usize) -> Setting {
+// The same rows of another kind, dealt in turns.
+pub fn of_kind(kind: Kind, states: usize) -> Setting {
     Setting {
         states: states,
         deal: Deal::Turns,
         order: Order::Forwards,
         tree: Tree::First,
-        thirds: true,
+        kind: kind,
     }
 }
 

@@ -1,5 +1,6 @@
 // Prints a setting, what happened in it, and the sum and the average of its total.
 
+use crate::rows::Kind;
 use crate::settings::Deal;
 use crate::settings::Order;
 use crate::settings::Setting;
@@ -34,14 +35,21 @@ fn tree(t: Tree) {
     }
 }
 
+fn kind(k: Kind) {
+    match k {
+        Kind::Whole => shown::text(b""),
+        Kind::Magnitudes => shown::text(b"magnitudes: "),
+        Kind::Thirds => shown::text(b"not whole: "),
+    }
+}
+
 // What a setting is. One state is dealt all rows and takes no other.
 fn setting(s: Setting) {
     let d = s.deal;
     let o = s.order;
     let t = s.tree;
-    if s.thirds {
-        shown::text(b"not whole: ");
-    }
+    let k = s.kind;
+    kind(k);
     shown::text(b"states");
     shown::number(s.states as u64);
     order(o);

@@ -2,6 +2,7 @@
 // 48 places from 48 * i on in either pair of lists.
 
 use crate::rows;
+use crate::rows::Kind;
 use crate::settings;
 use crate::settings::Setting;
 use crate::states;
@@ -111,11 +112,11 @@ fn feed_row(
     bi: &mut Indexes,
     bv: &mut Values,
     r: usize,
-    thirds: bool,
+    kind: Kind,
 ) -> Step {
     let mut xi = [0u32; 12];
     let mut xv = [0.0f32; 12];
-    let n = rows::row(r, thirds, &mut xi, &mut xv);
+    let n = rows::row(r, kind, &mut xi, &mut xv);
     feed(s, ai, av, bi, bv, &xi, &xv, n)
 }
 
@@ -130,6 +131,7 @@ pub fn deal_rows(
 ) -> Table {
     let mut states = from.states;
     let mut tally = from.tally;
+    let kind = s.kind;
     let mut k: usize = 0;
     while k < rows::ROWS {
         if tally.number != refusal::DONE {
@@ -139,7 +141,7 @@ pub fn deal_rows(
         k += 1;
         let i = settings::state_of(s, r);
         let state = states[i];
-        let step = feed_row(state, ai, av, bi, bv, r, s.thirds);
+        let step = feed_row(state, ai, av, bi, bv, r, kind);
         let next = step.state;
         states[i] = next;
         tally = fed(tally, state, step);

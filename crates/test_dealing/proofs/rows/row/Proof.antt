@@ -6,10 +6,10 @@ use Rattle.test_dealing.proofs.rows.row.Statement.{statement}
 use Rattle.test_dealing.proofs.rows.row.Tie as tie
 
 abbrev Inv-loop : tie.InvT-loop
-Inv-loop r thirds indexes₀ values₀ n i₀ at₀ indexes values i at = Unit
+Inv-loop r kind indexes₀ values₀ n i₀ at₀ indexes values i at = Unit
 
 abbrev μ-loop : tie.MeasureT-loop
-μ-loop r thirds indexes₀ values₀ n i₀ at₀ indexes values i at = 12 - at
+μ-loop r kind indexes₀ values₀ n i₀ at₀ indexes values i at = 12 - at
 
 mixed-requires : tie.Need-mixed-requires Inv-loop μ-loop
 mixed-requires c κs = search needs
@@ -29,8 +29,11 @@ mul-indexes c = omega arith
 element-write-indexes : tie.Need-element-write-indexes Inv-loop μ-loop
 element-write-indexes c = omega arith
 
-value-requires : tie.Need-value-requires Inv-loop μ-loop
-value-requires c κs = search needs
+whole-requires : tie.Need-whole-requires Inv-loop μ-loop
+whole-requires c κs = search needs
+
+of-kind-requires : tie.Need-of-kind-requires Inv-loop μ-loop
+of-kind-requires c κs = search needs
 
 mul-values : tie.Need-mul-values Inv-loop μ-loop
 mul-values c = omega arith
@@ -71,7 +74,8 @@ row-spec =
     cast-indexes
     mul-indexes
     element-write-indexes
-    value-requires
+    whole-requires
+    of-kind-requires
     mul-values
     element-write-values
     add-at

@@ -9,10 +9,10 @@ use Rattle.test_dealing.proofs.settings.state_of.Reads as state-of-read
 use Rattle.test_dealing.proofs.table.feed_row.Reads as feed-row-reads
 
 abbrev Inv-loop : tie.InvT-loop
-Inv-loop s ai₀ av₀ bi₀ bv₀ states₀ tally₀ k₀ ai av bi bv states tally k = Unit
+Inv-loop s ai₀ av₀ bi₀ bv₀ states₀ tally₀ kind k₀ ai av bi bv states tally k = Unit
 
 abbrev μ-loop : tie.MeasureT-loop
-μ-loop s ai₀ av₀ bi₀ bv₀ states₀ tally₀ k₀ ai av bi bv states tally k = 2000 - k
+μ-loop s ai₀ av₀ bi₀ bv₀ states₀ tally₀ kind k₀ ai av bi bv states tally k = 2000 - k
 
 loop-holds : tie.Need-loop-holds Inv-loop μ-loop
 loop-holds c = tt
