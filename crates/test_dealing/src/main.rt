@@ -54,7 +54,25 @@ fn main() {
     let mut bi = [4294967295u32; 3072];
     let mut bv = [9.0f32; 3072];
     run_all(&mut ai, &mut av, &mut bi, &mut bv);
-    run(settings::of_kind(Kind::Magnitudes, 1), &mut ai, &mut av, &mut bi, &mut bv);
-    run(settings::of_kind(Kind::Thirds, 1), &mut ai, &mut av, &mut bi, &mut bv);
-    run(settings::of_kind(Kind::Thirds, 8), &mut ai, &mut av, &mut bi, &mut bv);
+    run(
+        settings::of_kind(Kind::Magnitudes, 1),
+        &mut ai,
+        &mut av,
+        &mut bi,
+        &mut bv,
+    );
+    run(
+        settings::of_kind(Kind::Thirds, 1),
+        &mut ai,
+        &mut av,
+        &mut bi,
+        &mut bv,
+    );
+    run(
+        settings::of_kind(Kind::Thirds, 8),
+        &mut ai,
+        &mut av,
+        &mut bi,
+        &mut bv,
+    );
 }
