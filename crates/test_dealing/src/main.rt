@@ -47,6 +47,13 @@ fn run_all(ai: &mut Indexes, av: &mut Values, bi: &mut Indexes, bv: &mut Values)
     }
 }
 
+// Runs the settings of other rows: magnitudes, and values that are not whole.
+fn run_others(ai: &mut Indexes, av: &mut Values, bi: &mut Indexes, bv: &mut Values) {
+    run(settings::of_kind(Kind::Magnitudes, 1), ai, av, bi, bv);
+    run(settings::of_kind(Kind::Thirds, 1), ai, av, bi, bv);
+    run(settings::of_kind(Kind::Thirds, 8), ai, av, bi, bv);
+}
+
 // The lists start with entries that belong to no state.
 fn main() {
     let mut ai = [4294967295u32; 3072];
@@ -54,25 +61,5 @@ fn main() {
     let mut bi = [4294967295u32; 3072];
     let mut bv = [9.0f32; 3072];
     run_all(&mut ai, &mut av, &mut bi, &mut bv);
-    run(
-        settings::of_kind(Kind::Magnitudes, 1),
-        &mut ai,
-        &mut av,
-        &mut bi,
-        &mut bv,
-    );
-    run(
-        settings::of_kind(Kind::Thirds, 1),
-        &mut ai,
-        &mut av,
-        &mut bi,
-        &mut bv,
-    );
-    run(
-        settings::of_kind(Kind::Thirds, 8),
-        &mut ai,
-        &mut av,
-        &mut bi,
-        &mut bv,
-    );
+    run_others(&mut ai, &mut av, &mut bi, &mut bv);
 }
