@@ -10,7 +10,7 @@ use Rattle.aggregate_svecf32.specs.Calls.{Rows, Combines, Moves}
 use Rattle.aggregate_svecf32.specs.declared.Header.{Header}
 use Rattle.aggregate_svecf32.specs.declared.Told.{Told}
 use Rattle.aggregate_svecf32.specs.declared.Told.the-variants.{Done, Refused}
-use Rattle.dealing.specs.Runs.{Store, State, state, Pick, here, there, Each, Clear, Kept, Only, handed, taken, remain, liesIn}
+use Rattle.dealing.specs.Runs.{Store, State, state, Pick, here, there, Each, Clear, Kept, Only, handed, taken, remain, IfDone, liesIn}
 use Rattle.dealing.specs.Runs.{Run, start, elsewhere, begin, feed, meet, carry}
 use Rattle.dealing.proofs.Holding.{Holding, bare, holding-kept, Lies, lies-same, took, row-lies, combine-lies, Went, move-lies}
 
@@ -76,19 +76,19 @@ module _ {m m′ : Store} {p at n : ℕ} {h : Header} {own : List Vector} (only 
 
 -- ---- the steps, each with its state in front
 
-fed : {m m′ : Store} {s : State} {rest : List State} {rows : List Vector} → Owns m (s ∷ rest) rows → (v : Vector) (t : Told) → Only (s .lists) m m′
+own-fed : {m m′ : Store} {s : State} {rest : List State} {rows : List Vector} → Owns m (s ∷ rest) rows → (v : Vector) (t : Told) → Only (s .lists) m m′
     → Rows (s .header) (m (s .lists)) v t (m′ (s .lists)) → Owns m′ (state (s .lists) (handed t) ∷ rest) (taken t v rows)
-fed {m} {m′} {s} {rows = rows} (more own others h f w p) v t only acts =
+own-fed {m} {m′} {s} {rows = rows} (more own others h f w p) v t only acts =
     lands only (row-lies (m (s .lists)) (s .header) own h v t (m′ (s .lists)) acts) f w (go t)
   where
     go : (t : Told) → Perm (taken t v own ++ others) (taken t v rows)
     go (Done k turns) = Perm·cons v p
     go (Refused k n c) = p
 
-met : {m m′ : Store} {a b : State} {others rest : List State} {rows : List Vector} → Owns m (a ∷ others) rows → Pick b others rest → (t : Told)
+own-met : {m m′ : Store} {a b : State} {others rest : List State} {rows : List Vector} → Owns m (a ∷ others) rows → Pick b others rest → (t : Told)
     → Only (a .lists) m m′ → Combines (a .header) (m (a .lists)) (b .header) (m (b .lists)) t (m′ (a .lists))
     → Owns m′ (state (a .lists) (handed t) ∷ remain t b rest) rows
-met {m} {m′} {a} {b} {rest = rest} {rows = rows} (more own x h f w p) l t only acts = two (own-pick l w)
+own-met {m} {m′} {a} {b} {rest = rest} {rows = rows} (more own x h f w p) l t only acts = two (own-pick l w)
   where
     free : Each (Free a) (b ∷ rest)
     free = each-pick (Free a) l f
@@ -102,15 +102,16 @@ met {m} {m′} {a} {b} {rest = rest} {rows = rows} (more own x h f w p) l t only
             lands only r (free .1) w (rw (append-assoc o own y) (Perm·trans (turn o own y) (Perm·trans (Perm·append-left own q) p)))
         go (Refused g n c) r = lands only r free (more o y k e w q) p
 
-carried : {m m′ : Store} {s : State} {rest : List State} {rows : List Vector} → Owns m (s ∷ rest) rows → (n p at long : ℕ)
-    → Each (Clear p at long) rest → (t : Told) → Only p m m′ → Moves (s .header) (m (s .lists)) n (m p) at long t (m′ p)
+own-carried : {m m′ : Store} {s : State} {rest : List State} {rows : List Vector} → Owns m (s ∷ rest) rows → (n p at long : ℕ)
+    → (t : Told) → IfDone t (Each (Clear p at long) rest) → Only p m m′ → Moves (s .header) (m (s .lists)) n (m p) at long t (m′ p)
     → Owns m′ (state (liesIn t (s .lists) p) (handed t) ∷ rest) rows
-carried {m} {m′} {s} {rest} {rows} (more own others h f w q) n p at long c t only acts =
-    go t (move-lies (m (s .lists)) (s .header) own h n (m p) at long t (m′ p) acts)
+own-carried {m} {m′} {s} {rest} {rows} (more own others h f w q) n p at long t c only acts =
+    go t c (move-lies (m (s .lists)) (s .header) own h n (m p) at long t (m′ p) acts)
   where
-    go : (t : Told) → Went (m (s .lists)) (s .header) own h at long (m p) t (m′ p) → Owns m′ (state (liesIn t (s .lists) p) (handed t) ∷ rest) rows
-    go (Done g turns) l = lands only l c w q
-    go (Refused g k i) l =
+    go : (t : Told) → IfDone t (Each (Clear p at long) rest) → Went (m (s .lists)) (s .header) own h at long (m p) t (m′ p)
+        → Owns m′ (state (liesIn t (s .lists) p) (handed t) ∷ rest) rows
+    go (Done g turns) c l = lands only l c w q
+    go (Refused g k i) c l =
         lands {at = s .header .start} {n = s .header .length} {own = own} (λ u e. same u)
         (rw (l .0, same (s .lists)) (lies-same (m (s .lists)) (s .header) own h)) f w q
       where
@@ -126,6 +127,6 @@ pub owns : {m : Store} {ss : List State} {rows : List Vector} → Run m ss rows 
 owns (start m) = none
 owns (elsewhere r m′ k) = own-kept k (owns r)
 owns (begin {m = m} {rows = rows} r p at n c) = more [] rows (fresh-bare (m p) at n) c (owns r) (Perm·refl rows)
-owns (feed r s rest k v t m′ o acts) = fed (own-pick k (owns r)) v t o acts
-owns (meet r a others k b rest l u t m′ o acts) = met (own-pick k (owns r)) l t o acts
-owns (carry r s rest k n p at long c u t m′ o acts) = carried (own-pick k (owns r)) n p at long c t o acts
+owns (feed r s rest k v t m′ o acts) = own-fed (own-pick k (owns r)) v t o acts
+owns (meet r a others k b rest l u t m′ o acts) = own-met (own-pick k (owns r)) l t o acts
+owns (carry r s rest k n p at long u t c m′ o acts) = own-carried (own-pick k (owns r)) n p at long t c o acts

@@ -10,10 +10,10 @@ use Rattle.regions.specs.Regions.{Pair}
 use Rattle.refusal.specs.declared.Checked.the-variants.{Refused}
 use Rattle.aggregate_svecf32.specs.Calls.{rowOf, Rows, Moves, taken}
 use Rattle.aggregate_svecf32.specs.declared.Told.{Told}
-use Rattle.aggregate_svecf32.specs.declared.Told.the-variants.{Refused as Kept}
+use Rattle.aggregate_svecf32.specs.declared.Told.the-variants.{Done, Refused as Kept}
 use Rattle.aggregate_svecf32.proofs.Acting.{acts-refused}
 use Rattle.dealing.specs.Runs as Runs
-use Rattle.dealing.specs.Runs.{Store, State, state, Pick, Each, Clear, Only, handed, liesIn, Run, feed, carry}
+use Rattle.dealing.specs.Runs.{Store, State, state, Pick, Each, Clear, Only, handed, IfDone, liesIn, Run, feed, carry}
 
 -- the pair p is x now
 abbrev pub changed : Store → ℕ → Pair → Store
@@ -25,6 +25,10 @@ module _ (m : Store) (p : ℕ) (x : Pair) where
 
   only : Only p m (changed m p x)
   only q other = rw (ne-eqb q p other)
+
+if-done : (t : Told) {A : Type 0} → A → IfDone t A
+if-done (Done h turns) a = a
+if-done (Kept h n c) a = tt
 
 module _ {m : Store} {ss : List State} {rows : List Vector} (run : Run m ss rows) (s : State) {rest : List State} (pick : Pick s ss rest) where
   pub fed : (v : Vector) {t : Told} {x : Pair} → Rows (s .header) (m (s .lists)) v t x
@@ -40,4 +44,4 @@ module _ {m : Store} {ss : List State} {rows : List Vector} (run : Run m ss rows
       → {t : Told} {x : Pair} → Moves (s .header) (m (s .lists)) more (m p) at n t x
       → Run (changed m p x) (state (liesIn t (s .lists) p) (handed t) ∷ rest) rows
   carried more p at n clear apart {t} {x} acts =
-      carry run s rest pick more p at n clear apart t (changed m p x) (only m p x) (rw (changed-at m p x) acts)
+      carry run s rest pick more p at n apart t (if-done t clear) (changed m p x) (only m p x) (rw (changed-at m p x) acts)

@@ -180,8 +180,8 @@ r3 = feed r2 (state 0 a1) (c0 ∷ b0 ∷ []) here v2 (Refused a1 NEED 17) (lists
 
 r4 : Run (lists x1 y1) (state 1 a2 ∷ c0 ∷ b0 ∷ []) (v1 ∷ [])
 r4 =
-    carry r3 (state 0 a1) (c0 ∷ b0 ∷ []) here 1 1 1 17 ((λ e. absurd (omega arith)), ((λ e. absurd (omega arith)), tt)) (λ e. omega arith)
-    (Done a2 0) (lists x1 y1) (only1 x1 x0 y1) (calls .moves)
+    carry r3 (state 0 a1) (c0 ∷ b0 ∷ []) here 1 1 1 17 (λ e. omega arith)
+    (Done a2 0) ((λ e. absurd (omega arith)), ((λ e. absurd (omega arith)), tt)) (lists x1 y1) (only1 x1 x0 y1) (calls .moves)
 
 r5 : Run (lists x1 y2) (state 1 a3 ∷ c0 ∷ b0 ∷ []) (v2 ∷ v1 ∷ [])
 r5 = feed r4 (state 1 a2) (c0 ∷ b0 ∷ []) here v2 (Done a3 1) (lists x1 y2) (only1 x1 y1 y2) (calls .merges)

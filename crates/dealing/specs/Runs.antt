@@ -67,6 +67,11 @@ abbrev pub remain : Told → State → List State → List State
 remain (Done h turns) b rest = rest
 remain (Refused h n c) b rest = b ∷ rest
 
+-- what is asked of a step that is not refused; one that is changes nothing
+abbrev pub IfDone : Told → Type 0 → Type 0
+IfDone (Done h turns) A = A
+IfDone (Refused h n c) A = Unit {0}
+
 -- where a state lies after it was to move from the pair p to the pair q
 abbrev pub liesIn : Told → ℕ → ℕ → ℕ
 liesIn (Done h turns) p q = q
@@ -102,7 +107,7 @@ pub data Run : Store → List State → List Vector → Type 0 where
   -- "move states that answer NEED", to regions in other lists that overlap no other
   carry : {m : Store} {ss : List State} {rows : List Vector} → Run m ss rows
       → (s : State) (rest : List State) → Pick s ss rest
-      → (more p at n : ℕ) → Each (Clear p at n) rest → (p ≡ s .lists → ⊥)
-      → (t : Told) (m′ : Store) → Only p m m′
+      → (more p at n : ℕ) → (p ≡ s .lists → ⊥)
+      → (t : Told) → IfDone t (Each (Clear p at n) rest) → (m′ : Store) → Only p m m′
       → Moves (s .header) (m (s .lists)) more (m p) at n t (m′ p)
       → Run m′ (state (liesIn t (s .lists) p) (handed t) ∷ rest) rows
