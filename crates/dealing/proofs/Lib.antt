@@ -3,6 +3,7 @@ pub mod Numbers
 pub mod Quotients
 pub mod Added
 pub mod Holding
+pub mod Telling
 pub mod Owning
 pub mod Theorem
 pub mod Needs
