@@ -1,5 +1,5 @@
 -- A vector that is the sum of rows: where they are whole numbers that are small enough, it holds their totals. Assumes nothing.
-use Prim.Native.Nat.{ℕ, _+_, _≤_, _<_}
+use Prim.Native.Nat.{ℕ, _<_}
 use native.Mathlib.Omega.{arith}
 use mathlib.Core.Bool.{Bool, true, _&&_}
 use mathlib.Core.List.{List, [], _∷_, _++_}
@@ -9,13 +9,12 @@ use lib.IntN.{+ℤ-idr, +ℤ-comm}
 use lib.Ieee.{binary32, fits}
 use lib.Ieee.Fits.{and-i, and-l, and-r}
 use borrow.Author.Tests.{eq-eqb}
-use Rattle.whole.specs.Whole.{integral}
 use Rattle.whole.specs.Sums.{all}
 use Rattle.whole.proofs.Folds.{size-sum, all-append}
 use Rattle.refusal.specs.declared.Checked.the-variants.{Valid}
 use Rattle.sparse.specs.Vectors.{Vector, vector, at}
 use Rattle.sparse.specs.Calls.{checkedOf}
-use Rattle.sparse.specs.Numbers.{numberAt}
+use Rattle.sparse.specs.Numbers.{isWhole, numberAt}
 use Rattle.sparse.specs.Walk.{Sound}
 use Rattle.sparse.proofs.Checks.{sound}
 use Rattle.sparse.proofs.Entries.{entries-same}
@@ -24,8 +23,8 @@ use Rattle.merges.specs.Algebra.{added, joins}
 use Rattle.merges.specs.declared.Op.the-variants.{Add}
 use Rattle.merges.proofs.Meaning.{joins-at, joins-valid}
 use Rattle.aggregate_svecf32.specs.States.{passes}
-use Rattle.dealing.specs.Totals.{numbersAt, totalAt, weightAt, entry, total, totals}
-use Rattle.dealing.specs.Demand.{Whole}
+use Rattle.dealing.specs.Totals.{numbersAt, totalAt, entry, total, totals}
+use Rattle.dealing.specs.Demand.{Exact}
 use Rattle.dealing.proofs.Numbers.{added-entry, row-entry, total-append, weight-both}
 
 -- ---- tests of two lists
@@ -36,14 +35,13 @@ both t o o′ h = let r : T (all t o && all t o′) = rw (all-append t o o′) a
 joint : (t : Vector → Bool) (o o′ : List Vector) → T (all t o) → T (all t o′) → T (all t (o ++ o′))
 joint t o o′ h k = rw (all-append t o o′) (and-i (all t o) (all t o′) h k)
 
--- rows that are whole are so in each part
-whole-parts : (o o′ : List Vector) → Whole (o ++ o′) → Whole o × Whole o′
-whole-parts o o′ w =
+-- rows whose totals are exact are so in each part
+exact-parts : (o o′ : List Vector) → Exact (o ++ o′) → Exact o × Exact o′
+exact-parts o o′ w =
     let f = both (λ v. all (fits binary32) (v .values)) o o′ (w .floats) in
-    let i = both (λ v. all integral (v .values)) o o′ (w .whole) in
-    let small : (k : ℕ) → weightAt o k + weightAt o′ k ≤ 16777216 = λ k. rw (weight-both o o′ k) at (w .small k) in (
-      record { floats = f .0; whole = i .0; small = λ k. omega (arith, small k) },
-      record { floats = f .1; whole = i .1; small = λ k. omega (arith, small k) },
+    let i = both isWhole o o′ (w .whole) in (
+      record { floats = f .0; whole = i .0; small = λ k. omega (arith, weight-both o o′ k, w .small k) },
+      record { floats = f .1; whole = i .1; small = λ k. omega (arith, weight-both o o′ k, w .small k) },
     )
 
 -- ---- sums of rows
@@ -52,7 +50,7 @@ pub record SumOf (v : Vector) (o : List Vector) : Type 0 where
   pub sound : Sound v
   pub valid : T (all (λ w. passes (checkedOf w)) o)
   pub dims : T (all (λ w. eqb (w .dims) (v .dims)) o)
-  pub exact : Whole o → (k : ℕ) → k < v .dims → at v k ≡ entry total (totalAt o k)
+  pub exact : Exact o → (k : ℕ) → k < v .dims → at v k ≡ entry total (totalAt o k)
 
 -- a row is the sum of itself
 pub sum-one : (v : Vector) → checkedOf v ≡ Valid → SumOf v (v ∷ [])
@@ -62,7 +60,7 @@ sum-one v e = record {
   dims = rw (eq-eqb (v .dims) (v .dims) refl) tt;
   exact = λ w k h.
       let z = numberAt (at v k) in
-      row-entry v (sound v e) (and-l (all (fits binary32) (v .values)) true (w .floats)) (and-l (all integral (v .values)) true (w .whole)) k
+      row-entry v (sound v e) (and-l (all (fits binary32) (v .values)) true (w .floats)) (and-l (isWhole v) true (w .whole)) k
       (omega (arith, w .small k))
       ∙ ap (entry total) (sym (+ℤ-idr z));
 }
@@ -74,7 +72,7 @@ sum-both v w o o′ s s′ e = record {
   valid = joint (λ u. passes (checkedOf u)) o′ o (s′ .valid) (s .valid);
   dims = joint (λ u. eqb (u .dims) (v .dims)) o′ o (rw e (s′ .dims)) (s .dims);
   exact = λ x k h.
-      let p = whole-parts o′ o x in
+      let p = exact-parts o′ o x in
       let a = s .exact (p .1) k h in
       let b = s′ .exact (p .0) k (rw e at h) in
       joins-at Add v w k h ∙ ap₂ added a b
@@ -83,7 +81,7 @@ sum-both v w o o′ s s′ e = record {
 }
 
 -- so the vector is that of the totals
-pub sum-totals : (v : Vector) (o : List Vector) → SumOf v o → Whole o → v ≡ totals (v .dims) o
+pub sum-totals : (v : Vector) (o : List Vector) → SumOf v o → Exact o → v ≡ totals (v .dims) o
 sum-totals v o s w =
     let e = entries-same (at v) (λ k. entry total (totalAt o k)) (v .dims) (s .exact w) in
     rebuilt v (s .sound) ∙ ap₂ (vector (v .dims)) (e .0) (e .1)

@@ -28,8 +28,8 @@ use Rattle.aggregate_svecf32.proofs.Consistent.{inside-facts, bare-state}
 use Rattle.aggregate_svecf32.proofs.Joined.{merge-need, merge-passes}
 use Rattle.aggregate_svecf32.proofs.Keeps.{Keeps, acts-indexes, acts-values, row-keeps, move-keeps}
 use Rattle.aggregate_svecf32.proofs.Outcomes.{row-some, move-some}
-use Rattle.dealing.specs.Demand.{Fair}
-use Rattle.dealing.specs.Runs.{Store, State, state, here, Run, start, begin}
+use Rattle.dealing.specs.Demand.{Dealable}
+use Rattle.dealing.specs.Runs.{Store, State, state, here, Run, start, begin, Finished}
 use Rattle.dealing.proofs.Needs.{need-made-good}
 use Rattle.dealing.proofs.Stores.{changed, changed-at, fed, unfed, carried}
 
@@ -117,7 +117,7 @@ module _ {d : ℕ} (v : Vector) (passed : checkedOf v ≡ Valid) (same : v .dims
         let o = move-some (r .h) (r .m (r .p)) (size v) (r .m q) 0 d in
         let k = move-keeps (r .h) (r .m (r .p)) (size v) (r .m q) 0 d (o .2) (good .0) in
         let refused = unfed (r .run) (state (r .p) (r .h)) here v e in
-        let went = carried refused (state (r .p) (r .h)) here (size v) q 0 d tt (λ e. omega arith) (o .2) in (
+        let went = carried refused (state (r .p) (r .h)) here (size v) q 0 d tt (o .2) in (
           reached (r .m) (r .long) q (o .2) (good .0) k (r .dims) (r .count) (rw (k .told) at went),
           rw (changed-at (r .m) q (o .1)) (rw (k .told) at (good .1 (o .0) (o .1) (o .2))),
         )
@@ -146,16 +146,16 @@ is-valid (Refused n p) t = absurd t
 both : (t : Vector → Bool) (v : Vector) (rows : List Vector) → T (all t (v ∷ rows)) → T (t v) × T (all t rows)
 both t v rows h = (and-l (t v) (all t rows) h, and-r (t v) (all t rows) h)
 
-parts : {d : ℕ} {v : Vector} {rows : List Vector} → Fair d (v ∷ rows) → (checkedOf v ≡ Valid) × (v .dims ≡ d) × Fair d rows
+parts : {d : ℕ} {v : Vector} {rows : List Vector} → Dealable d (v ∷ rows) → (checkedOf v ≡ Valid) × (v .dims ≡ d) × Dealable d rows
 parts {d} {v} {rows} f =
     let a = both (λ v. passes (checkedOf v)) v rows (f .valid) in
     let b = both (λ v. eqb (v .dims) d) v rows (f .dims) in
     (is-valid (checkedOf v) (a .0), eqb→eq (v .dims) d (b .0), record { valid = a .1; dims = b .1; few = omega (arith, f .few) })
 
-reach : (d : ℕ) (v : Vector) (rows : List Vector) → Fair d (v ∷ rows) → Reached d (v ∷ rows)
+reach : (d : ℕ) (v : Vector) (rows : List Vector) → Dealable d (v ∷ rows) → Reached d (v ∷ rows)
 reach d v [] f = let a = parts f in first v (a .0) (a .1)
 reach d v (w ∷ rows) f = let a = parts f in later v (a .0) (a .1) (reach d w rows (a .2)) (f .few)
 
-pub can-finish : (d : ℕ) (rows : List Vector) → Fair d rows → (m : Store) × (s : State) × Run m (s ∷ []) rows
+pub can-finish : (d : ℕ) (rows : List Vector) → Dealable d rows → (m : Store) × (s : State) × Finished m s rows
 can-finish d [] f = (blank d, state 0 (fresh 0 d), alone d)
 can-finish d (v ∷ rows) f = let r = reach d v rows f in (r .m, state (r .p) (r .h), r .run)

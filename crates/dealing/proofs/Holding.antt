@@ -10,7 +10,7 @@ use Rattle.refusal.specs.declared.Checked.{Checked}
 use Rattle.refusal.specs.declared.Checked.the-variants.{Valid, Refused}
 use Rattle.sparse.specs.Vectors.{Vector, vector}
 use Rattle.regions.specs.Capacity.{capacityFor}
-use Rattle.regions.specs.Regions.{Pair, part, Apart}
+use Rattle.regions.specs.Regions.{Pair, Apart}
 use Rattle.regions.proofs.Apart.{stands-apart, part-kept, part-inside}
 use Rattle.regions.proofs.Capacities.{cap-pos}
 use Rattle.aggregate_svecf32.specs.States.{held, stateOf}
@@ -24,8 +24,7 @@ use Rattle.aggregate_svecf32.proofs.Joined.{merge-passed}
 use Rattle.aggregate_svecf32.proofs.Keeps.{Fits, acts-kept, acts-told, acts-indexes, acts-values, fits-keeps}
 use Rattle.aggregate_svecf32.proofs.Keeps.{row-tests, row-fits, combine-tests, combined-fits, combine-leaves, moved-fits}
 use Rattle.aggregate_svecf32.proofs.Moved.{moving}
-use Rattle.dealing.specs.Runs as Runs
-use Rattle.dealing.specs.Runs.{handed}
+use Rattle.dealing.specs.Runs.{Same, handed, takenIn}
 use Rattle.dealing.proofs.Added.{SumOf, sum-one, sum-both}
 
 -- ---- a state that took in the rows o
@@ -41,22 +40,22 @@ region-some {h} f =
     omega (arith, f .fits, eqb-true (capacityFor (h .dims) (h .capacity)) (h .capacity) (f .capacity), cap-pos (h .dims) (h .capacity) (f .sound .low))
 
 -- where its region is as it was, so is the state
-module _ (p q : Pair) (h : Header) (a : part (h .start) (h .length) (q .indexes) ≡ part (h .start) (h .length) (p .indexes))
-    (b : part (h .start) (h .length) (q .values) ≡ part (h .start) (h .length) (p .values)) where
-  held-kept : h .len ≤ h .length → held h q ≡ held h p
-  held-kept few =
-      ap₂ (vector (h .dims)) (part-kept (h .start) (h .length) (h .len) (p .indexes) (q .indexes) few a)
-      (part-kept (h .start) (h .length) (h .len) (p .values) (q .values) few b)
+module _ (p q : Pair) (h : Header) where
+  held-kept : Same (h .start) (h .length) p q → h .len ≤ h .length → held h q ≡ held h p
+  held-kept same few =
+      ap₂ (vector (h .dims)) (part-kept (h .start) (h .length) (h .len) (p .indexes) (q .indexes) few (same .0))
+      (part-kept (h .start) (h .length) (h .len) (p .values) (q .values) few (same .1))
 
-  pub holding-kept : (o : List Vector) → Holding p h o → Holding q h o
-  holding-kept o (bare t z) = bare t z
-  holding-kept o (full t s c v) =
+  pub holding-kept : (o : List Vector) → (h .begun ≡ true → Same (h .start) (h .length) p q) → Holding p h o → Holding q h o
+  holding-kept o kept (bare t z) = bare t z
+  holding-kept o kept (full t s c v) =
+      let same = kept t in
       let y = state-sure h p s t in
       let f = y .fair in
-      let e = held-kept (omega (arith, f .room, f .fits)) in
+      let e = held-kept same (omega (arith, f .room, f .fits)) in
       let i : Inside h q = record {
-        indexes = part-inside (h .start) (h .length) (p .indexes) (q .indexes) (region-some f) a (y .inside .indexes);
-        values = part-inside (h .start) (h .length) (p .values) (q .values) (region-some f) b (y .inside .values);
+        indexes = part-inside (h .start) (h .length) (p .indexes) (q .indexes) (region-some f) (same .0) (y .inside .indexes);
+        values = part-inside (h .start) (h .length) (p .values) (q .values) (region-some f) (same .1) (y .inside .values);
       } in
       let g : Fair h q = record {
         capacity = f .capacity;
@@ -75,11 +74,10 @@ pub record Lies (start n : ℕ) (p q : Pair) (h : Header) (o : List Vector) : Ty
   pub holding : Holding q h o
   pub begins : h .start ≡ start
   pub long : h .length ≡ n
-  pub indexes : (s k : ℕ) → Apart start n s k → part s k (q .indexes) ≡ part s k (p .indexes)
-  pub values : (s k : ℕ) → Apart start n s k → part s k (q .values) ≡ part s k (p .values)
+  pub others : (s k : ℕ) → Apart start n s k → Same s k p q
 
 pub lies-same : (p : Pair) (h : Header) (o : List Vector) → Holding p h o → Lies (h .start) (h .length) p p h o
-lies-same p h o g = record { holding = g; begins = refl; long = refl; indexes = λ s k a. refl; values = λ s k a. refl }
+lies-same p h o g = record { holding = g; begins = refl; long = refl; others = λ s k a. (refl, refl) }
 
 -- a deed is done whose vector is the sum of the rows o
 deed-lies : {h : Header} {due : Checked} {d : Deed} {p : Pair} {r : Told} {q : Pair} → Acts h due d p r q → due ≡ Valid → Fits d p
@@ -91,13 +89,15 @@ deed-lies {d = d} {p = p} {q = q} acts e f o s c =
       holding = full {o = o} (k .begun) (k .state) c (rw (k .holds) s);
       begins = refl;
       long = refl;
-      indexes = λ s n. stands-apart (d .header .start) (d .room) (d .vector .indexes) (p .indexes) (q .indexes) (acts-indexes acts e) (d .header .length) s n room;
-      values = λ s n. stands-apart (d .header .start) (d .room) (d .vector .values) (p .values) (q .values) (acts-values acts e) (d .header .length) s n room;
+      others = λ s n apart. (
+        stands-apart (d .header .start) (d .room) (d .vector .indexes) (p .indexes) (q .indexes) (acts-indexes acts e) (d .header .length) s n room apart,
+        stands-apart (d .header .start) (d .room) (d .vector .values) (p .values) (q .values) (acts-values acts e) (d .header .length) s n room apart,
+      );
     }
 
 -- ---- a vector comes to a state
 
--- it is the sum of the rows o′, which are `more`
+-- it is the sum of the rows o′, of which there are `more`
 module _ (p : Pair) (h : Header) (v : Vector) (more : ℕ) (o′ : List Vector) (s : SumOf v o′) (c : more ≡ length o′)
     {due : Checked} {r : Told} {q : Pair} (passes : due ≡ Valid) where
   take-lies : (o : List Vector) → Holding p h o → Acts h due (taken h p v more) p r q → Fits (taken h p v more) p → takeOf h v more ≡ Valid
@@ -122,10 +122,10 @@ took (Done h turns) o′ o = o′ ++ o
 took (Stayed h n c) o′ o = o
 
 module _ (p : Pair) (h : Header) (o : List Vector) (g : Holding p h o) where
-  pub row-lies : (v : Vector) (r : Told) (q : Pair) → Rows h p v r q → Lies (h .start) (h .length) p q (handed r) (Runs.taken r v o)
+  pub row-lies : (v : Vector) (r : Told) (q : Pair) → Rows h p v r q → Lies (h .start) (h .length) p q (handed r) (takenIn r v o)
   row-lies v r q acts = go (rowOf h p v) refl
     where
-      go : (due : Checked) → rowOf h p v ≡ due → Lies (h .start) (h .length) p q (handed r) (Runs.taken r v o)
+      go : (due : Checked) → rowOf h p v ≡ due → Lies (h .start) (h .length) p q (handed r) (takenIn r v o)
       go (Refused n c) e = let k = acts-kept acts e in rw (k .0, k .1) (lies-same p h o g)
       go Valid e =
           let t = row-tests h p v e in

@@ -10,7 +10,8 @@ use Rattle.aggregate_svecf32.specs.Calls.{Rows, Combines, Moves}
 use Rattle.aggregate_svecf32.specs.declared.Header.{Header}
 use Rattle.aggregate_svecf32.specs.declared.Told.{Told}
 use Rattle.aggregate_svecf32.specs.declared.Told.the-variants.{Done, Refused}
-use Rattle.dealing.specs.Runs.{Store, State, state, Pick, here, there, Each, Clear, Kept, Only, handed, taken, remain, IfDone, liesIn}
+use Rattle.dealing.specs.Runs.{Store, State, state, Pick, here, there, Each, Clear, Kept, Only, handed, takenIn, remain, IfDone}
+use Rattle.dealing.specs.Runs.{liesIn}
 use Rattle.dealing.specs.Runs.{Run, start, elsewhere, begin, feed, meet, carry}
 use Rattle.dealing.proofs.Holding.{Holding, bare, holding-kept, Lies, lies-same, took, row-lies, combine-lies, Went, move-lies}
 
@@ -53,7 +54,7 @@ own-pick (there {t = t} k) (more own others h f w p) = let e = each-pick (Free t
 own-kept : {m m′ : Store} {ss : List State} {rows : List Vector} → Each (Kept m m′) ss → Owns m ss rows → Owns m′ ss rows
 own-kept e none = none
 own-kept {m} {m′} e (more {s = s} own others h f w p) =
-    more own others (holding-kept (m (s .lists)) (m′ (s .lists)) (s .header) (e .0 .0) (e .0 .1) own h) f (own-kept (e .1) w) p
+    more own others (holding-kept (m (s .lists)) (m′ (s .lists)) (s .header) own (e .0) h) f (own-kept (e .1) w) p
 
 -- the state h took in the rows `own`, in the region of n places from `at` on of the pair p; only that region changed
 module _ {m m′ : Store} {p at n : ℕ} {h : Header} {own : List Vector} (only : Only p m m′) (l : Lies at n (m p) (m′ p) h own) where
@@ -61,10 +62,10 @@ module _ {m m′ : Store} {p at n : ℕ} {h : Header} {own : List Vector} (only 
   kept s c = elim (ℕ-discrete (s .lists) p) [ yes e ↦ same e | no u ↦ other u ]
     where
       same : s .lists ≡ p → Kept m m′ s
-      same e = rw e (l .indexes _ _ (c e), l .values _ _ (c e))
+      same e t = rw e (l .others (s .header .start) (s .header .length) (c e))
 
       other : (s .lists ≡ p → ⊥) → Kept m m′ s
-      other u = rw (only (s .lists) u) (refl, refl)
+      other u t = rw (only (s .lists) u) (refl, refl)
 
   all-kept : (ss : List State) → Each (Clear p at n) ss → Each (Kept m m′) ss
   all-kept [] c = tt
@@ -77,11 +78,11 @@ module _ {m m′ : Store} {p at n : ℕ} {h : Header} {own : List Vector} (only 
 -- ---- the steps, each with its state in front
 
 own-fed : {m m′ : Store} {s : State} {rest : List State} {rows : List Vector} → Owns m (s ∷ rest) rows → (v : Vector) (t : Told) → Only (s .lists) m m′
-    → Rows (s .header) (m (s .lists)) v t (m′ (s .lists)) → Owns m′ (state (s .lists) (handed t) ∷ rest) (taken t v rows)
+    → Rows (s .header) (m (s .lists)) v t (m′ (s .lists)) → Owns m′ (state (s .lists) (handed t) ∷ rest) (takenIn t v rows)
 own-fed {m} {m′} {s} {rows = rows} (more own others h f w p) v t only acts =
     lands only (row-lies (m (s .lists)) (s .header) own h v t (m′ (s .lists)) acts) f w (go t)
   where
-    go : (t : Told) → Perm (taken t v own ++ others) (taken t v rows)
+    go : (t : Told) → Perm (takenIn t v own ++ others) (takenIn t v rows)
     go (Done k turns) = Perm·cons v p
     go (Refused k n c) = p
 
@@ -129,4 +130,4 @@ owns (elsewhere r m′ k) = own-kept k (owns r)
 owns (begin {m = m} {rows = rows} r p at n c) = more [] rows (fresh-bare (m p) at n) c (owns r) (Perm·refl rows)
 owns (feed r s rest k v t m′ o acts) = own-fed (own-pick k (owns r)) v t o acts
 owns (meet r a others k b rest l u t m′ o acts) = own-met (own-pick k (owns r)) l t o acts
-owns (carry r s rest k n p at long u t c m′ o acts) = own-carried (own-pick k (owns r)) n p at long t c o acts
+owns (carry r s rest k n p at long t c m′ o acts) = own-carried (own-pick k (owns r)) n p at long t c o acts

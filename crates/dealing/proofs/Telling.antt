@@ -10,7 +10,6 @@ use lib.IntN.{ℤ, natAbs}
 use lib.ListN.{length}
 use lib.Ieee.{Float, binary32, fits}
 use lib.Ieee.Fits.{and-l}
-use Rattle.whole.specs.Whole.{integral}
 use Rattle.whole.specs.Sums.{all}
 use Rattle.whole.proofs.Folds.{size-sum, perm-sum, perm-weight, perm-all, perm-length}
 use Rattle.refusal.specs.declared.Checked.{Checked}
@@ -18,7 +17,7 @@ use Rattle.refusal.specs.declared.Checked.the-variants.{Valid}
 use Rattle.sparse.specs.Cells.{indexOf, indexesBelow}
 use Rattle.sparse.specs.Vectors.{Vector, vector, size, at}
 use Rattle.sparse.specs.Calls.{checkedOf, roomOf, Leaves}
-use Rattle.sparse.specs.Numbers.{numberAt}
+use Rattle.sparse.specs.Numbers.{isWhole, numberAt}
 use Rattle.sparse.specs.declared.Cell.the-variants.{Empty, Full}
 use Rattle.sparse.proofs.Entries.{entries-same}
 use Rattle.sparse.proofs.Meaning.{at-below}
@@ -29,7 +28,7 @@ use Rattle.aggregate_svecf32.specs.declared.Header.{Header}
 use Rattle.aggregate_svecf32.proofs.Consistent.{state-sure}
 use Rattle.dealing.specs.Runs.{Store, State}
 use Rattle.dealing.specs.Totals.{numbersAt, totalAt, entry, total, share, totals, averages}
-use Rattle.dealing.specs.Demand.{Whole, Takes, Tells}
+use Rattle.dealing.specs.Demand.{Exact, Takes, Tells}
 use Rattle.dealing.proofs.Added.{sum-totals}
 use Rattle.dealing.proofs.Holding.{Holding, bare, full}
 use Rattle.dealing.proofs.Quotients.{over-entry}
@@ -43,10 +42,10 @@ module _ {xs ys : List Vector} (p : Perm xs ys) where
   same-all : (t : Vector → Bool) → T (all t xs) → T (all t ys)
   same-all t h = rw (← perm-all t p) h
 
-  same-whole : Whole xs → Whole ys
-  same-whole w = record {
+  same-exact : Exact xs → Exact ys
+  same-exact w = record {
     floats = same-all (λ v. all (fits binary32) (v .values)) (w .floats);
-    whole = same-all (λ v. all integral (v .values)) (w .whole);
+    whole = same-all isWhole (w .whole);
     small = λ k. rw (← perm-weight (Perm·map (λ (v : Vector). numberAt (at v k)) p)) (w .small k);
   }
 
@@ -60,7 +59,7 @@ module _ (p : Pair) (h : Header) where
         sound = v .sound;
         valid = same-all q (λ w. passes (checkedOf w)) (v .valid);
         dims = same-all q (λ w. eqb (w .dims) (h .dims)) (v .dims);
-        exact = λ w k l. v .exact (same-whole (Perm·symm q) w) k l ∙ ap (entry total) (same-total q k);
+        exact = λ w k l. v .exact (same-exact (Perm·symm q) w) k l ∙ ap (entry total) (same-total q k);
       })
 
 -- ---- what it tells
@@ -92,7 +91,8 @@ module _ (d : ℕ) (rows : List Vector) (t : Takes d rows) where
   share-at : (k : ℕ) → k < d → over (length rows) (at (totals d rows) k) ≡ entry (share (length rows)) (totalAt rows k)
   share-at k h =
       ap (over (length rows)) (at-below (λ k. entry total (totalAt rows k)) d k h)
-      ∙ over-entry (totalAt rows k) (length rows) (omega (arith, size-sum (numbersAt rows k), t .whole .small k)) (t .some) (t .fair .few)
+      ∙ over-entry (totalAt rows k) (length rows) (omega (arith, size-sum (numbersAt rows k), t .exact .small k)) (t .some)
+      (t .dealable .few)
 
   shares : shared (length rows) (totals d rows) ≡ averages d rows
   shares = let e = entries-same _ _ d share-at in ap₂ (vector d) (e .0) (e .1)
@@ -101,7 +101,8 @@ pub tells : (m : Store) (s : State) (d : ℕ) (rows : List Vector) → Takes d r
 tells m s d rows t (bare b z) = absurd (omega (arith, t .some))
 tells m s d rows t (full b y c v) = record {
   count = c;
-  sum = λ oi ov r oi′ ov′ x. subst₂ (λ (due : Checked) (v : Vector). Leaves due v oi ov r oi′ ov′) (room (length oi) (length ov) (totals d rows) refl) holds x;
+  sum = λ oi ov r oi′ ov′ x.
+      subst₂ (λ (due : Checked) (v : Vector). Leaves due v oi ov r oi′ ov′) (room (length oi) (length ov) (totals d rows) refl) holds x;
   average = λ oi ov r oi′ ov′ x.
       subst₂ (λ (due : Checked) (v : Vector). Leaves due v oi ov r oi′ ov′)
       (room (length oi) (length ov) (averages d rows) (same-places total (share (length rows)) (totalAt rows) d))
@@ -115,7 +116,9 @@ tells m s d rows t (full b y c v) = record {
     p = m (s .lists)
 
     holds : held h p ≡ totals d rows
-    holds = sum-totals (held h p) rows v (t .whole) ∙ ap (λ (n : ℕ). totals n rows) (same-dims (h .dims) d rows (t .some) (v .dims) (t .fair .dims))
+    holds =
+        sum-totals (held h p) rows v (t .exact)
+        ∙ ap (λ (n : ℕ). totals n rows) (same-dims (h .dims) d rows (t .some) (v .dims) (t .dealable .dims))
 
     divided : shared (h .count) (held h p) ≡ averages d rows
     divided = ap₂ shared c holds ∙ shares d rows t

@@ -7,8 +7,8 @@ use mathlib.Core.Path.{sym, _∙_}
 use Rattle.sparse.specs.Vectors.{Vector}
 use Rattle.sparse.proofs.Writes.{one-writes}
 use Rattle.aggregate_svecf32.proofs.Consistent.{state-sure}
-use Rattle.dealing.specs.Runs.{Store, State, Run}
-use Rattle.dealing.specs.Demand.{Fair, Takes, Tells, Alike}
+use Rattle.dealing.specs.Runs.{Store, State, Finished}
+use Rattle.dealing.specs.Demand.{Dealable, Takes, Tells, Alike}
 use Rattle.dealing.proofs.Holding.{Holding, bare, full}
 use Rattle.dealing.proofs.Owning.{Owns, none, more, owns}
 use Rattle.dealing.proofs.Telling.{same-holding, tells}
@@ -19,13 +19,13 @@ all-rows {m} {s} (more own others h f none p) = same-holding (m (s .lists)) (s .
 
 -- "Its count is the number of rows, its sum holds exactly the nonzero whole-number totals in rising index order, and its average is each
 -- total divided once by the count." A run that took in the given rows, in any order, and left one state
-pub dealt : {m : Store} {s : State} {rows : List Vector} → Run m (s ∷ []) rows → (given : List Vector) → Perm rows given
+pub dealt : {m : Store} {s : State} {rows : List Vector} → Finished m s rows → (given : List Vector) → Perm rows given
     → (d : ℕ) → Takes d given → Tells m s d given
 dealt {m} {s} r given p d t = tells m s d given t (same-holding (m (s .lists)) (s .header) p (all-rows (owns r)))
 
 -- "Dealing, order and tree change no bit." Two runs that took in the same rows, in any order, and each left one state
-pub no-bit-changes : {m m′ : Store} {s s′ : State} {rows rows′ : List Vector} → Run m (s ∷ []) rows → Run m′ (s′ ∷ []) rows′ → Perm rows rows′
-    → (d : ℕ) → Takes d rows → Alike m s m′ s′
+pub no-bit-changes : {m m′ : Store} {s s′ : State} {rows rows′ : List Vector} → Finished m s rows → Finished m′ s′ rows′
+    → Perm rows rows′ → (d : ℕ) → Takes d rows → Alike m s m′ s′
 no-bit-changes {rows = rows} r r′ p d t =
     let a = dealt r rows (Perm·refl rows) d t in
     let b = dealt r′ rows (Perm·symm p) d t in
@@ -35,10 +35,14 @@ no-bit-changes {rows = rows} r r′ p d t =
       average = λ oi ov q q′ xi yi xv yv f g. one-writes (a .average oi ov q xi xv f) (b .average oi ov q′ yi yv g);
     }
 
--- A finished run took in valid rows of one dims, at most 16,777,216 of them: so what `Fair` asks is no more than that a run can finish
-pub finished-fair : {m : Store} {s : State} {rows : List Vector} → Run m (s ∷ []) rows → Fair (s .header .dims) rows
-finished-fair {m} {s} {rows} r = go rows (all-rows (owns r))
+-- A finished run took in valid rows of one dims, at most 16,777,216 of them: so what `Dealable` asks is no more than that a run can finish
+pub finished-dealable : {m : Store} {s : State} {rows : List Vector} → Finished m s rows → Dealable (s .header .dims) rows
+finished-dealable {m} {s} {rows} r = go rows (all-rows (owns r))
   where
-    go : (rows : List Vector) → Holding (m (s .lists)) (s .header) rows → Fair (s .header .dims) rows
+    go : (rows : List Vector) → Holding (m (s .lists)) (s .header) rows → Dealable (s .header .dims) rows
     go rows (bare b z) = record { valid = tt; dims = tt; few = omega arith }
-    go rows (full b y c v) = record { valid = v .valid; dims = v .dims; few = omega (arith, state-sure (s .header) (m (s .lists)) y b .fair .most) }
+    go rows (full b y c v) = record {
+      valid = v .valid;
+      dims = v .dims;
+      few = omega (arith, state-sure (s .header) (m (s .lists)) y b .fair .most);
+    }

@@ -1,4 +1,4 @@
--- A run with all its numbers, so that the theorem is not about nothing: three rows of dims 17, and three states a, b and c in one pair of lists.
+-- A run written out step by step, so that the theorem is not empty: three rows of dims 17, and three states a, b and c in one pair of lists.
 -- A row that c refuses with ROOM is dealt to a; a answers NEED, and moves; b meets a, where one entry comes to 0; c goes without rows.
 -- Assumes nothing.
 use Prim.Native.Nat.{ℕ, _≤_}
@@ -31,8 +31,8 @@ use Rattle.aggregate_svecf32.specs.Calls.{taken, combined, moved, rowOf, Rows, 
 use Rattle.aggregate_svecf32.specs.declared.Header.{Header}
 use Rattle.aggregate_svecf32.specs.declared.Told.the-variants.{Done, Refused}
 use Rattle.aggregate_svecf32.proofs.Acting.{acts-done, acts-refused}
-use Rattle.dealing.specs.Demand.{Fair, Whole, Takes, Tells}
-use Rattle.dealing.specs.Runs.{Store, State, state, here, there, Only, Run, start, elsewhere, begin, feed, meet, carry}
+use Rattle.dealing.specs.Demand.{Dealable, Exact, Takes, Tells}
+use Rattle.dealing.specs.Runs.{Store, State, state, here, there, Only, Run, start, elsewhere, begin, feed, meet, carry, Finished}
 use Rattle.dealing.specs.Totals.{totals}
 use Rattle.dealing.proofs.Theorem.{dealt}
 
@@ -180,7 +180,7 @@ r3 = feed r2 (state 0 a1) (c0 ∷ b0 ∷ []) here v2 (Refused a1 NEED 17) (lists
 
 r4 : Run (lists x1 y1) (state 1 a2 ∷ c0 ∷ b0 ∷ []) (v1 ∷ [])
 r4 =
-    carry r3 (state 0 a1) (c0 ∷ b0 ∷ []) here 1 1 1 17 (λ e. omega arith)
+    carry r3 (state 0 a1) (c0 ∷ b0 ∷ []) here 1 1 1 17
     (Done a2 0) ((λ e. absurd (omega arith)), ((λ e. absurd (omega arith)), tt)) (lists x1 y1) (only1 x1 x0 y1) (calls .moves)
 
 r5 : Run (lists x1 y2) (state 1 a3 ∷ c0 ∷ b0 ∷ []) (v2 ∷ v1 ∷ [])
@@ -199,14 +199,14 @@ r8 =
     meet r7 (state 1 a3) (state 0 b1 ∷ c0 ∷ []) (there here) (state 0 b1) (c0 ∷ []) here (λ e. omega arith)
     (Done a4 14) (lists x2 y3) (only1 x2 y2 y3) (calls .meets)
 
-pub trial : Run (lists x2 y3) (state 1 a4 ∷ []) rows
+pub trial : Finished (lists x2 y3) (state 1 a4) rows
 trial = meet r8 (state 1 a4) (c0 ∷ []) here c0 [] here (λ e. omega arith) (Done a4 0) (lists x2 y3) (only1 x2 y3 y3) (calls .bare)
 
 -- ---- its rows are as the theorem takes them
 
-pub trial-fair : Fair 17 rows
+pub trial-dealable : Dealable 17 rows
 unfolding checkedOf firstFrom anyBelow Ieee.eq Ieee.ofBits
-trial-fair = record { valid = tt; dims = tt; few = omega arith }
+trial-dealable = record { valid = tt; dims = tt; few = omega arith }
 
 -- values of size 2 at most
 abbrev little : Float → Bool
@@ -219,16 +219,16 @@ little-at v t k = go (at v k) refl
     go Empty e = omega arith
     go (Full x) e = leb→le (natAbs (integer x)) 2 (passing-at little v t k x e)
 
-pub trial-whole : Whole rows
+pub trial-exact : Exact rows
 unfolding Ieee.fits
-trial-whole = record {
+trial-exact = record {
   floats = tt;
   whole = tt;
   small = λ k. omega (arith, little-at v1 tt k, little-at v2 tt k, little-at v3 tt k);
 }
 
 pub trial-takes : Takes 17 rows
-trial-takes = record { some = omega arith; fair = trial-fair; whole = trial-whole }
+trial-takes = record { some = omega arith; dealable = trial-dealable; exact = trial-exact }
 
 -- ---- their totals are what the last state holds
 

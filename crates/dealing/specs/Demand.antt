@@ -5,11 +5,11 @@ use mathlib.Core.Path.{_≡_}
 use lib.Dec.{T, eqb}
 use lib.ListN.{length}
 use lib.Ieee.{Float, binary32, fits}
-use Rattle.whole.specs.Whole.{integral}
 use Rattle.whole.specs.Sums.{all}
 use Rattle.refusal.specs.declared.Written.{Written}
 use Rattle.sparse.specs.Vectors.{Vector, size}
 use Rattle.sparse.specs.Calls.{checkedOf, roomOf, Leaves}
+use Rattle.sparse.specs.Numbers.{isWhole}
 use Rattle.aggregate_svecf32.specs.States.{passes}
 use Rattle.aggregate_svecf32.specs.Calls.{Sums, Averages}
 use Rattle.dealing.specs.Runs.{Store, State}
@@ -17,8 +17,9 @@ use Rattle.dealing.specs.Totals.{weightAt, totals, averages}
 
 -- ---- what it takes
 
--- Rows that can be dealt at all: a finished run has no others, and there is one for any such rows (proofs/Finishing)
-pub record Fair (d : ℕ) (rows : List Vector) : Type 0 where
+-- Rows that can be dealt at all: there is a finished run for any such rows (`can-finish`, proofs/Finishing), and a finished run has no others
+-- (`finished-dealable`, proofs/Theorem)
+pub record Dealable (d : ℕ) (rows : List Vector) : Type 0 where
   -- "valid rows"
   pub valid : T (all (λ v. passes (checkedOf v)) rows)
   -- "of one dims"
@@ -27,20 +28,20 @@ pub record Fair (d : ℕ) (rows : List Vector) : Type 0 where
   pub few : length rows ≤ 16777216
 
 -- Rows whose totals are exact
-pub record Whole (rows : List Vector) : Type 0 where
+pub record Exact (rows : List Vector) : Type 0 where
   -- values are f32: each is one that binary32 holds, as every value of a list of f32 is
   pub floats : T (all (λ v. all (fits binary32) (v .values)) rows)
   -- "all values whole numbers"
-  pub whole : T (all (λ v. all integral (v .values)) rows)
+  pub whole : T (all isWhole rows)
   -- "magnitudes at each index adding up to at most 16,777,216"
   pub small : (k : ℕ) → weightAt rows k ≤ 16777216
 
--- "Take one or more valid rows of one dims, at most 16,777,216 rows, all values whole numbers, magnitudes at each index .."
+-- "Take one or more valid rows of one dims, at most 16,777,216 rows, all values whole numbers, magnitudes at each index adding up to .."
 pub record Takes (d : ℕ) (rows : List Vector) : Type 0 where
   -- "one or more"
   pub some : 1 ≤ length rows
-  pub fair : Fair d rows
-  pub whole : Whole rows
+  pub dealable : Dealable d rows
+  pub exact : Exact rows
 
 -- ---- what it tells
 

@@ -2,6 +2,7 @@
 -- calls does anything that the promise of that call permits (`Rows`, `Combines`, `Moves` of crates/aggregate_svecf32/specs/Calls.antt),
 -- refusals and open entries included. In quotes is the sentence that the theorem stands for; docs/PROMISES.md has it whole.
 use Prim.Native.Nat.{ℕ}
+use mathlib.Core.Bool.{true}
 use mathlib.Core.List.{List, [], _∷_}
 use mathlib.Core.Path.{_≡_}
 use Rattle.sparse.specs.Vectors.{Vector}
@@ -39,16 +40,20 @@ Each P (s ∷ ss) = P s × Each P ss
 abbrev pub Clear : ℕ → ℕ → ℕ → State → Type 0
 Clear p start n s = s .lists ≡ p → Apart start n (s .header .start) (s .header .length)
 
--- "nothing else writes" the region of s
+-- "nothing else writes" the region of s, once s has begun: the n places from `start` on hold what they held
+abbrev pub Same : ℕ → ℕ → Pair → Pair → Type 0
+Same start n p q = (part start n (q .indexes) ≡ part start n (p .indexes)) × (part start n (q .values) ≡ part start n (p .values))
+
 abbrev pub Kept : Store → Store → State → Type 0
-Kept m m′ s =
-    let h = s .header in
-    (part (h .start) (h .length) (m′ (s .lists) .indexes) ≡ part (h .start) (h .length) (m (s .lists) .indexes))
-    × (part (h .start) (h .length) (m′ (s .lists) .values) ≡ part (h .start) (h .length) (m (s .lists) .values))
+Kept m m′ s = s .header .begun ≡ true → Same (s .header .start) (s .header .length) (m (s .lists)) (m′ (s .lists))
 
 -- a call that is lent the pair p to write changes no other
 abbrev pub Only : ℕ → Store → Store → Type 0
 Only p m m′ = (q : ℕ) → (q ≡ p → ⊥) → m′ q ≡ m q
+
+-- "two that meet lying in different lists"
+abbrev pub Different : State → State → Type 0
+Different a b = a .lists ≡ b .lists → ⊥
 
 -- ---- what an answer does
 
@@ -57,12 +62,12 @@ abbrev pub handed : Told → Header
 handed (Done h turns) = h
 handed (Refused h n c) = h
 
--- the rows taken in: a refused row is none of them, and is to come again ("with every refused step made good")
-abbrev pub taken : Told → Vector → List Vector → List Vector
-taken (Done h turns) v rows = v ∷ rows
-taken (Refused h n c) v rows = rows
+-- "with every refused step made good": a refused row is none of the rows taken in, and is to come again
+abbrev pub takenIn : Told → Vector → List Vector → List Vector
+takenIn (Done h turns) v rows = v ∷ rows
+takenIn (Refused h n c) v rows = rows
 
--- "combine each state away once, unfed after that": b is gone, unless that was refused
+-- "combine each state away once, unfed after that": b is gone; if that was refused it stays, and is to be combined again
 abbrev pub remain : Told → State → List State → List State
 remain (Done h turns) b rest = rest
 remain (Refused h n c) b rest = b ∷ rest
@@ -96,18 +101,22 @@ pub data Run : Store → List State → List Vector → Type 0 where
       → (s : State) (rest : List State) → Pick s ss rest
       → (v : Vector) (t : Told) (m′ : Store) → Only (s .lists) m m′
       → Rows (s .header) (m (s .lists)) v t (m′ (s .lists))
-      → Run m′ (state (s .lists) (handed t) ∷ rest) (taken t v rows)
-  -- "combine .. in any tree .., two that meet lying in different lists": b into a
+      → Run m′ (state (s .lists) (handed t) ∷ rest) (takenIn t v rows)
+  -- "combine .. in any tree": b into a
   meet : {m : Store} {ss : List State} {rows : List Vector} → Run m ss rows
       → (a : State) (others : List State) → Pick a ss others
-      → (b : State) (rest : List State) → Pick b others rest → (a .lists ≡ b .lists → ⊥)
+      → (b : State) (rest : List State) → Pick b others rest → Different a b
       → (t : Told) (m′ : Store) → Only (a .lists) m m′
       → Combines (a .header) (m (a .lists)) (b .header) (m (b .lists)) t (m′ (a .lists))
       → Run m′ (state (a .lists) (handed t) ∷ remain t b rest) rows
-  -- "move states that answer NEED", to regions in other lists that overlap no other
+  -- "move states that answer NEED", to regions that overlap no other
   carry : {m : Store} {ss : List State} {rows : List Vector} → Run m ss rows
       → (s : State) (rest : List State) → Pick s ss rest
-      → (more p at n : ℕ) → (p ≡ s .lists → ⊥)
-      → (t : Told) → IfDone t (Each (Clear p at n) rest) → (m′ : Store) → Only p m m′
+      → (more p at n : ℕ) (t : Told) → IfDone t (Each (Clear p at n) rest)
+      → (m′ : Store) → Only p m m′
       → Moves (s .header) (m (s .lists)) more (m p) at n t (m′ p)
       → Run m′ (state (liesIn t (s .lists) p) (handed t) ∷ rest) rows
+
+-- "until one is left"
+abbrev pub Finished : Store → State → List Vector → Type 0
+Finished m s rows = Run m (s ∷ []) rows
