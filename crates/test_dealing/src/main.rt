@@ -2,7 +2,8 @@
 // trees. For each setting it prints a line that says what the setting is and what happened, and a line with the
 // count, the sum and the average, each value by the eight digits of its bits. The rows are whole numbers, so the
 // second line is the same each time. Then it adds up the magnitudes: each sum is below 4b800000, the bits of
-// 16,777,216. At the end all values are thirds, for which no such promise is made, and the two lines differ.
+// 16,777,216. At the end all values are thirds, for which no such promise is made: each order and each tree gives
+// another line.
 //
 // The states lie in two pairs of lists, A and B. A state moves to the other pair where a row or a combine answers
 // NEED. A second state is brought over to the other pair where it would lie in the pair of the first.
@@ -13,7 +14,6 @@ mod show;
 mod states;
 mod table;
 
-use rows::Kind;
 use settings::Setting;
 use states::Indexes;
 use states::State;
@@ -38,20 +38,13 @@ fn run(s: Setting, ai: &mut Indexes, av: &mut Values, bi: &mut Indexes, bv: &mut
     total(last, ai, av, bi, bv);
 }
 
-// Runs the settings of whole rows.
+// Runs all settings.
 fn run_all(ai: &mut Indexes, av: &mut Values, bi: &mut Indexes, bv: &mut Values) {
     let mut k: usize = 1;
     while k <= settings::SETTINGS {
-        run(settings::whole(k), ai, av, bi, bv);
+        run(settings::nth(k), ai, av, bi, bv);
         k += 1;
     }
-}
-
-// Runs the settings of other rows: magnitudes, and values that are not whole.
-fn run_others(ai: &mut Indexes, av: &mut Values, bi: &mut Indexes, bv: &mut Values) {
-    run(settings::of_kind(Kind::Magnitudes, 1), ai, av, bi, bv);
-    run(settings::of_kind(Kind::Thirds, 1), ai, av, bi, bv);
-    run(settings::of_kind(Kind::Thirds, 8), ai, av, bi, bv);
 }
 
 // The lists start with entries that belong to no state.
@@ -61,5 +54,4 @@ fn main() {
     let mut bi = [4294967295u32; 3072];
     let mut bv = [9.0f32; 3072];
     run_all(&mut ai, &mut av, &mut bi, &mut bv);
-    run_others(&mut ai, &mut av, &mut bi, &mut bv);
 }

@@ -29,7 +29,7 @@ fn signed(minus: bool, n: usize) -> f32 {
 }
 
 // What row r has at index i. At some indexes all are positive, at some all negative, and at some there are
-// both. At index 5 of each eight a row and the one HALF further cancel out; at index 7 they nearly do.
+// both. At 5, 13, 21, .. rows r and HALF + r cancel out, so that the total is 0; at 7, 15, 23, .. they nearly do.
 fn whole(r: usize, i: usize) -> f32 {
     let n = mixed(r, 100 + i % 48);
     let m = 1 + mixed(r % HALF, 100 + i % 48) % 49999;

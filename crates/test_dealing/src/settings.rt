@@ -8,7 +8,7 @@ ghost use Prim.Native.Nat.{_<_, _≤_};
 pub enum Deal {
     // The rows go round the states.
     Turns,
-    // Each state has rows that follow one another.
+    // Each state has rows that follow one another; the last may have none.
     Blocks,
     // A scrambled number says which, and the first states have more rows than the last.
     Scrambled,
@@ -85,10 +85,9 @@ fn nth_tree(k: usize) -> Tree {
     }
 }
 
-pub const SETTINGS: usize = 27;
-
-// Setting k, counted from 1. With each number of states from 2 on, all deals, all orders and all trees occur.
-pub fn whole(k: usize) -> Setting {
+// Setting k of rows as they are, counted from 1. With each number of states from 2 on, all deals, all orders and
+// all trees occur.
+fn whole(k: usize) -> Setting {
     Setting {
         states: nth_states(k),
         deal: nth_deal(k % 4 + k / 4 + 2),
@@ -98,14 +97,41 @@ pub fn whole(k: usize) -> Setting {
     }
 }
 
-// The same rows of another kind, dealt in turns.
-pub fn of_kind(kind: Kind, states: usize) -> Setting {
+// The magnitudes of the same rows, in one state.
+fn magnitudes() -> Setting {
     Setting {
-        states: states,
+        states: 1,
         deal: Deal::Turns,
         order: Order::Forwards,
         tree: Tree::First,
-        kind: kind,
+        kind: Kind::Magnitudes,
+    }
+}
+
+// Thirds of the same rows, dealt in turns.
+fn thirds(states: usize, order: Order, tree: Tree) -> Setting {
+    Setting {
+        states: states,
+        deal: Deal::Turns,
+        order: order,
+        tree: tree,
+        kind: Kind::Thirds,
+    }
+}
+
+pub const SETTINGS: usize = 34;
+
+// Setting k, counted from 1: 27 of rows as they are, one of magnitudes and six of thirds.
+pub fn nth(k: usize) -> Setting {
+    match k {
+        28 => magnitudes(),
+        29 => thirds(1, Order::Forwards, Tree::First),
+        30 => thirds(1, Order::Backwards, Tree::First),
+        31 => thirds(1, Order::Strides, Tree::First),
+        32 => thirds(8, Order::Forwards, Tree::First),
+        33 => thirds(8, Order::Forwards, Tree::Last),
+        34 => thirds(8, Order::Forwards, Tree::Balanced),
+        _ => whole(k),
     }
 }
 

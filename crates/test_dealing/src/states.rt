@@ -23,19 +23,22 @@ pub struct Step {
     pub place: usize,
 }
 
-// What a call told of the state s, which lies in the pair B after it or not.
-fn step_of(told: Told, s: State, in_b: bool) -> Step {
+// What a call told: the header that it handed back, and which pair it is of if the call was done, or refused.
+fn step_of(told: Told, done_in_b: bool, refused_in_b: bool) -> Step {
     match told {
         Told::Done(h, turns) => Step {
             state: State {
                 header: h,
-                in_b: in_b,
+                in_b: done_in_b,
             },
             number: refusal::DONE,
             place: 0,
         },
         Told::Refused(h, number, place) => Step {
-            state: s,
+            state: State {
+                header: h,
+                in_b: refused_in_b,
+            },
             number: number,
             place: place,
         },
@@ -54,8 +57,8 @@ fn move_over(
     let h = s.header;
     step_of(
         h.move_to(ai, av, more, bi, bv, h.start, h.length),
-        s,
         !s.in_b,
+        s.in_b,
     )
 }
 
@@ -63,11 +66,11 @@ fn move_over(
 fn bring(s: State, ai: &[u32], av: &[f32], bi: &mut [u32], bv: &mut [f32]) -> Step {
     let h = s.header;
     let fresh = aggregate_svecf32::fresh(h.start, h.length);
-    step_of(fresh.combine(bi, bv, h, ai, av), s, !s.in_b)
+    step_of(fresh.combine(bi, bv, h, ai, av), !s.in_b, !s.in_b)
 }
 
 fn row(s: State, ai: &mut [u32], av: &mut [f32], xi: &[u32], xv: &[f32]) -> Step {
-    step_of(s.header.row(ai, av, rows::DIMS, xi, xv), s, s.in_b)
+    step_of(s.header.row(ai, av, rows::DIMS, xi, xv), s.in_b, s.in_b)
 }
 
 // Feeds a row to a state. On NEED the state moves, and is fed again.
@@ -84,7 +87,7 @@ fn feed_row(
     if fed.number != refusal::NEED {
         return fed;
     }
-    let moved = move_over(s, ai, av, xi.len(), bi, bv);
+    let moved = move_over(fed.state, ai, av, xi.len(), bi, bv);
     if moved.number != refusal::DONE {
         return moved;
     }
@@ -116,7 +119,11 @@ pub fn feed(
 
 // Combines a second state, which lies in the other pair, into a state.
 fn take(s: State, ai: &mut [u32], av: &mut [f32], other: State, bi: &[u32], bv: &[f32]) -> Step {
-    step_of(s.header.combine(ai, av, other.header, bi, bv), s, s.in_b)
+    step_of(
+        s.header.combine(ai, av, other.header, bi, bv),
+        s.in_b,
+        s.in_b,
+    )
 }
 
 // Moves a state to the other pair, brings the second, which lay there, to this one, and combines them.
@@ -152,7 +159,7 @@ fn take_with_room(
     if taken.number != refusal::NEED {
         return taken;
     }
-    move_and_take(s, ai, av, other, bi, bv)
+    move_and_take(taken.state, ai, av, other, bi, bv)
 }
 
 // Combines a second state into a state, whichever pair it lies in.

@@ -53,7 +53,7 @@ pub fn empty() -> Table {
     }
 }
 
-// One more if it is so, as far as this counts.
+// One more if it is so. It stops at a million.
 fn up(n: usize, so: bool) -> usize {
     if so {
         if n < 1000000 {

@@ -9,13 +9,13 @@ abbrev Inv-loop : tie.InvT-loop
 Inv-loop ai₀ av₀ bi₀ bv₀ k₀ ai av bi bv k = Unit
 
 abbrev μ-loop : tie.MeasureT-loop
-μ-loop ai₀ av₀ bi₀ bv₀ k₀ ai av bi bv k = 28 - k
+μ-loop ai₀ av₀ bi₀ bv₀ k₀ ai av bi bv k = 35 - k
 
 loop-holds : tie.Need-loop-holds Inv-loop μ-loop
 loop-holds c = tt
 
-whole-requires : tie.Need-whole-requires Inv-loop μ-loop
-whole-requires c κs = search needs
+nth-requires : tie.Need-nth-requires Inv-loop μ-loop
+nth-requires c κs = search needs
 
 run-requires : tie.Need-run-requires Inv-loop μ-loop
 run-requires c κs = search needs
@@ -39,7 +39,7 @@ run-all-spec =
     Inv-loop
     μ-loop
     loop-holds
-    whole-requires
+    nth-requires
     run-requires
     add-k
     loop-less
