@@ -37,7 +37,8 @@ pub data Holding (p : Pair) (h : Header) : List Vector → Type 0 where
 -- a region is not empty once its state has begun
 region-some : {h : Header} {p : Pair} → Fair h p → 1 ≤ h .length
 region-some {h} f =
-    omega (arith, f .fits, eqb-true (capacityFor (h .dims) (h .capacity)) (h .capacity) (f .capacity), cap-pos (h .dims) (h .capacity) (f .sound .low))
+    let own = eqb-true (capacityFor (h .dims) (h .capacity)) (h .capacity) (f .capacity) in
+    omega (arith, f .fits, cap-pos (h .dims) (h .capacity) (f .sound .low))
 
 -- where its region is as it was, so is the state
 module _ (p q : Pair) (h : Header) where
@@ -90,8 +91,8 @@ deed-lies {d = d} {p = p} {q = q} acts e f o s c =
       begins = refl;
       long = refl;
       others = λ s n apart. (
-        stands-apart (d .header .start) (d .room) (d .vector .indexes) (p .indexes) (q .indexes) (acts-indexes acts e) (d .header .length) s n room apart,
-        stands-apart (d .header .start) (d .room) (d .vector .values) (p .values) (q .values) (acts-values acts e) (d .header .length) s n room apart,
+        stands-apart (acts-indexes acts e) (d .header .length) s n room apart,
+        stands-apart (acts-values acts e) (d .header .length) s n room apart,
       );
     }
 

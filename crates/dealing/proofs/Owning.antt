@@ -1,7 +1,8 @@
 -- In any run no two regions overlap, each state took in some of the rows, and together they took in all. Assumes nothing.
 use Prim.Native.Nat.{ℕ}
 use native.Mathlib.Decide.{ℕ-discrete}
-use mathlib.Core.List.{List, [], _∷_, _++_, append-assoc, Perm, Perm·cons, Perm·trans, Perm·refl, Perm·append-left, Perm·append-right, perm-append-comm}
+use mathlib.Core.List.{List, [], _∷_, _++_, append-assoc, Perm, Perm·cons, Perm·trans, Perm·refl}
+use mathlib.Core.List.{Perm·append-left, Perm·append-right, perm-append-comm}
 use mathlib.Core.Path.{_≡_, refl, sym}
 use Rattle.sparse.specs.Vectors.{Vector}
 use Rattle.regions.specs.Regions.{Pair}
@@ -77,8 +78,8 @@ module _ {m m′ : Store} {p at n : ℕ} {h : Header} {own : List Vector} (only 
 
 -- ---- the steps, each with its state in front
 
-own-fed : {m m′ : Store} {s : State} {rest : List State} {rows : List Vector} → Owns m (s ∷ rest) rows → (v : Vector) (t : Told) → Only (s .lists) m m′
-    → Rows (s .header) (m (s .lists)) v t (m′ (s .lists)) → Owns m′ (state (s .lists) (handed t) ∷ rest) (takenIn t v rows)
+own-fed : {m m′ : Store} {s : State} {rest : List State} {rows : List Vector} → Owns m (s ∷ rest) rows → (v : Vector) (t : Told)
+    → Only (s .lists) m m′ → Rows (s .header) (m (s .lists)) v t (m′ (s .lists)) → Owns m′ (state (s .lists) (handed t) ∷ rest) (takenIn t v rows)
 own-fed {m} {m′} {s} {rows = rows} (more own others h f w p) v t only acts =
     lands only (row-lies (m (s .lists)) (s .header) own h v t (m′ (s .lists)) acts) f w (go t)
   where

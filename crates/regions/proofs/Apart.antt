@@ -44,11 +44,11 @@ module _ {ℓ} {A : Type ℓ} where
       ap (take n) (sym (rw q at (drop-drop (s - c) c new)) ∙ ap (drop (s - c)) e ∙ rw q at (drop-drop (s - c) c old))
 
   -- what stands in a region of n places leaves all parts that do not overlap it
-  pub stands-apart : (start room : ℕ) (xs old new : List A) → Stands start room xs old new → (n s k : ℕ) → room ≤ n → Apart start n s k
+  pub stands-apart : {start room : ℕ} {xs old new : List A} → Stands start room xs old new → (n s k : ℕ) → room ≤ n → Apart start n s k
       → part s k new ≡ part s k old
-  stands-apart start zero xs old new p n s k h apart = ap (part s k) (all-same start new old (p .before) (rw add-zero at (p .after)))
-  stands-apart start (suc room) xs old new p n s zero h apart = refl
-  stands-apart start (suc room) xs old new p n s (suc k) h apart =
+  stands-apart {start = start} {room = zero} {old = old} {new = new} p n s k h apart = ap (part s k) (all-same start new old (p .before) (rw add-zero at (p .after)))
+  stands-apart {room = suc room} p n s zero h apart = refl
+  stands-apart {start = start} {room = suc room} {old = old} {new = new} p n s (suc k) h apart =
       ⊎-elim
       (λ after. part-after s (suc k) (start + suc room) old new (p .after) (omega arith))
       (λ before. part-before s (suc k) start old new (p .before) before)
