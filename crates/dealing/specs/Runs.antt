@@ -40,10 +40,11 @@ Each P (s ∷ ss) = P s × Each P ss
 abbrev pub Clear : ℕ → ℕ → ℕ → State → Type 0
 Clear p start n s = s .lists ≡ p → Apart start n (s .header .start) (s .header .length)
 
--- "nothing else writes" the region of s, once s has begun: the n places from `start` on hold what they held
+-- the n places from `start` on hold in the lists q what they hold in p
 abbrev pub Same : ℕ → ℕ → Pair → Pair → Type 0
 Same start n p q = (part start n (q .indexes) ≡ part start n (p .indexes)) × (part start n (q .values) ≡ part start n (p .values))
 
+-- "nothing else writes": once s has begun, its region holds what it held
 abbrev pub Kept : Store → Store → State → Type 0
 Kept m m′ s = s .header .begun ≡ true → Same (s .header .start) (s .header .length) (m (s .lists)) (m′ (s .lists))
 
@@ -72,7 +73,7 @@ abbrev pub remain : Told → State → List State → List State
 remain (Done h turns) b rest = rest
 remain (Refused h n c) b rest = b ∷ rest
 
--- what is asked of a step that is not refused; one that is changes nothing
+-- what is asked only of a step that is done: a refused one changes nothing
 abbrev pub IfDone : Told → Type 0 → Type 0
 IfDone (Done h turns) A = A
 IfDone (Refused h n c) A = Unit {0}
@@ -88,7 +89,7 @@ liesIn (Refused h n c) p q = p
 pub data Run : Store → List State → List Vector → Type 0 where
   -- at first there are lists, and no state
   start : (m : Store) → Run m [] []
-  -- anything may be written where no state lies
+  -- anything may be written outside the regions of states that have begun, and lists may be lent longer or shorter
   elsewhere : {m : Store} {ss : List State} {rows : List Vector} → Run m ss rows
       → (m′ : Store) → Each (Kept m m′) ss
       → Run m′ ss rows
