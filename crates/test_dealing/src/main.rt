@@ -2,8 +2,8 @@
 // trees. For each setting it prints a line that says what the setting is and what happened, and a line with the
 // count, the sum and the average, each value by the eight digits of its bits. The rows are whole numbers, so the
 // second line is the same each time. Then it adds up the magnitudes: each sum is below 4b800000, the bits of
-// 16,777,216. At the end all values are thirds, for which no such promise is made: each order and each tree gives
-// another line.
+// 16,777,216. At the end all values are thirds, for which no such promise is made: three orders and three trees
+// give six lines that differ.
 //
 // The states lie in two pairs of lists, A and B. A state moves to the other pair where a row or a combine answers
 // NEED. A second state is brought over to the other pair where it would lie in the pair of the first.

@@ -23,7 +23,8 @@ pub struct Step {
     pub place: usize,
 }
 
-// What a call told: the header that it handed back, and which pair it is of if the call was done, or refused.
+// What a call told, with the header that it handed back. The two flags say whether that state lies in the pair B
+// after the call was done, and after it was refused.
 fn step_of(told: Told, done_in_b: bool, refused_in_b: bool) -> Step {
     match told {
         Told::Done(h, turns) => Step {
