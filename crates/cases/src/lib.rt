@@ -7,6 +7,7 @@
 //
 // Each reader starts at a place of the line and answers the place after what it read. What it cannot read it
 // leaves, so that a bad line is one that is not read to its end.
+pub mod bounds;
 mod digits;
 mod lists;
 
@@ -38,6 +39,12 @@ pub struct Small {
 pub struct Shape {
     pub indexes: usize,
     pub values: usize,
+    pub at: usize,
+}
+
+// How many numbers stand in a row, and the place after them.
+pub struct Several {
+    pub many: usize,
     pub at: usize,
 }
 
@@ -155,6 +162,42 @@ pub fn small_number(s: &[u8], from: usize, is_hex: bool) -> Small {
     }
 }
 
+// The dims of a vector, after a bar. Of a vector that is not there they are 0, and the place is not moved.
+pub fn dims(s: &[u8], from: usize) -> Small {
+    let bar = after(s, from, b'|');
+    let start = after(s, bar, b' ');
+    let n = small_number(s, start, false);
+    if bar == from || n.at == start {
+        return Small { value: 0, at: from };
+    }
+    n
+}
+
+// Whether a number may end here: at a space, a bar or the end.
+fn ends(s: &[u8], at: usize) -> bool {
+    let c = byte(s, at);
+    c == b' ' || c == b'|' || c == 0
+}
+
+// Numbers in a row of base 16 or 10, as many as the list has room for, each with a space, a bar or the line's
+// end after it.
+pub fn numbers(s: &[u8], from: usize, is_hex: bool, list: &mut [u64]) -> Several
+    ensures { λ r. ⌜ r .many ≤ length (now (list .entry)) ⌝ }
+{
+    let mut many: usize = 0;
+    let mut at = from;
+    while many < list.len() {
+        let n = number(s, at, is_hex);
+        if n.at == at || !ends(s, n.at) {
+            break;
+        }
+        list[many] = n.value;
+        many += 1;
+        at = after(s, n.at, b' ');
+    }
+    Several { many: many, at: at }
+}
+
 // Two lists. Lists that are not there have no entries.
 pub fn entries(s: &[u8], from: usize, indexes: &mut [u32], values: &mut [f32]) -> Shape
     ensures { λ r. ⌜ Inside r (now (indexes .entry)) (now (values .entry)) ⌝ }
@@ -172,4 +215,19 @@ pub fn entries(s: &[u8], from: usize, indexes: &mut [u32], values: &mut [f32]) -
         v = w;
     }
     v
+}
+
+// The two lists of a vector, after its dims, which were looked for from a place on. Where there are none, the
+// vector is not there, and the place is not moved.
+pub fn vector(s: &[u8], from: usize, dims: Small, indexes: &mut [u32], values: &mut [f32]) -> Shape
+    ensures { λ r. ⌜ Inside r (now (indexes .entry)) (now (values .entry)) ⌝ }
+{
+    if dims.at == from {
+        return Shape {
+            indexes: 0,
+            values: 0,
+            at: from,
+        };
+    }
+    entries(s, dims.at, indexes, values)
 }

@@ -3,17 +3,6 @@
 use super::Shape;
 ghost use Rattle.cases.specs.Room.{Inside};
 
-// The float of a pattern. The language has no NaN of a pattern.
-fn float(p: u32) -> f32 {
-    if p % 2147483648 / 8388608 != 255 {
-        return f32::from_bits(p);
-    }
-    if p % 8388608 == 0 {
-        return f32::from_bits(p);
-    }
-    0.0 / 0.0
-}
-
 // The lists with one more index, if there is one before a colon.
 fn index(s: &[u8], mut v: Shape, indexes: &mut [u32], values: &mut [f32]) -> Shape
     requires { ⌜ Inside v (now indexes) (now values) ⌝ }
@@ -48,7 +37,7 @@ fn value(s: &[u8], mut v: Shape, indexes: &mut [u32], values: &mut [f32]) -> Sha
     if values.len() <= k {
         return v;
     }
-    values[k] = float(n.value);
+    values[k] = patterns::value(n.value);
     v.values = k + 1;
     v.at = n.at;
     v

@@ -1,5 +1,6 @@
 // Prints the answers of calls in plain words, for the test programs. A refusal shows its number and its
-// place, and a float the eight digits of its bits.
+// place, and a float the eight digits of its bits. A space stands in front of each, but in `bare`.
+pub mod bare;
 
 use refusal::Asked;
 use refusal::Checked;
@@ -12,21 +13,31 @@ pub fn text(s: &[u8]) {
     io::write_all(libc::STDOUT_FILENO, s);
 }
 
+// A number in decimal, with no space in front.
+pub fn digits(n: u64) {
+    io::print_decimal(libc::STDOUT_FILENO, n);
+}
+
+// A number in hex, in as few digits as it takes, with no space in front.
+pub fn hex(n: u64) {
+    io::print_hex(libc::STDOUT_FILENO, n, 1);
+}
+
 pub fn number(n: u64) {
     text(b" ");
-    io::print_decimal(libc::STDOUT_FILENO, n);
+    digits(n);
 }
 
 fn pattern(n: u32) {
     io::print_hex(libc::STDOUT_FILENO, n as u64, 8);
 }
 
-// The digits of a float's bits. The bits of a NaN are not defined.
+// The digits of a float's bits. Those of a NaN are not promised.
 pub fn bits(x: f32) {
     if x != x {
         text(b"nan");
     } else {
-        pattern(f32::to_bits(x));
+        pattern(patterns::bits(x));
     }
 }
 
@@ -35,17 +46,33 @@ pub fn float(x: f32) {
     bits(x);
 }
 
+// An index and the digits of a value's bits.
+pub fn entry(index: u32, value: f32) {
+    number(index as u64);
+    text(b":");
+    bits(value);
+}
+
+// The first n entries of two lists, as far as the lists go.
+pub fn entries(indexes: &[u32], values: &[f32], n: usize) {
+    let mut at: usize = 0;
+    while at < n {
+        if indexes.len() <= at || values.len() <= at {
+            return;
+        }
+        entry(indexes[at], values[at]);
+        at += 1;
+    }
+}
+
 pub fn refused(n: u32, p: usize) {
-    text(b" refused");
-    number(n as u64);
-    number(p as u64);
+    text(b" ");
+    bare::refused(n, p);
 }
 
 pub fn checked(r: Checked) {
-    match r {
-        Checked::Valid => text(b" valid"),
-        Checked::Refused(n, p) => refused(n, p),
-    }
+    text(b" ");
+    bare::checked(r);
 }
 
 pub fn distance(r: Distance) {
@@ -86,19 +113,11 @@ pub fn merged(r: Merged) {
 }
 
 pub fn asked(r: Asked) {
-    match r {
-        Asked::Yes => text(b" yes"),
-        Asked::No => text(b" no"),
-        Asked::Refused(n, p) => refused(n, p),
-    }
+    text(b" ");
+    bare::asked(r);
 }
 
 pub fn ordering(r: Ordering) {
-    match r {
-        Ordering::Less => text(b" less"),
-        Ordering::Equal => text(b" equal"),
-        Ordering::Greater => text(b" greater"),
-        Ordering::Unordered => text(b" unordered"),
-        Ordering::Refused(n, p) => refused(n, p),
-    }
+    text(b" ");
+    bare::ordering(r);
 }

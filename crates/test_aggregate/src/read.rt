@@ -1,6 +1,7 @@
 // Reads the parts of a line: the call that it names, its numbers and its lists. Makes headers of numbers.
 
 use aggregate_svecf32::Header;
+use cases::Several;
 use cases::Shape;
 ghost use Rattle.cases.specs.Room.{Within};
 
@@ -15,12 +16,6 @@ pub enum Call {
     Sum,
     Average,
     Unknown,
-}
-
-// How many numbers stand in a row, and the place after them.
-pub struct Several {
-    pub many: usize,
-    pub at: usize,
 }
 
 // The call of a line, by its first two letters.
@@ -43,30 +38,9 @@ pub fn named(s: &[u8]) -> Call {
     }
 }
 
-// Whether a number may end here: at a space, a bar or the end.
-fn ends(s: &[u8], at: usize) -> bool {
-    let c = cases::byte(s, at);
-    c == b' ' || c == b'|' || c == 0
-}
-
-// Numbers in a row, at most seven, each with a space, a bar or the line's end after it. Where there is none
-// the place is not moved, so that two lists can start there.
+// Numbers in a row, at most seven, after a bar.
 pub fn numbers(s: &[u8], from: usize, list: &mut [u64; 7]) -> Several {
-    let mut many: usize = 0;
-    let mut at = cases::next(s, from);
-    while many < 7 {
-        let n = cases::number(s, at, false);
-        if n.at == at || !ends(s, n.at) {
-            break;
-        }
-        list[many] = n.value;
-        many += 1;
-        at = cases::after(s, n.at, b' ');
-    }
-    if many == 0 {
-        at = from;
-    }
-    Several { many: many, at: at }
+    cases::numbers(s, cases::next(s, from), false, list)
 }
 
 // The number as a u32, or the largest u32 where it is none.

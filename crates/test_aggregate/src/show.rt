@@ -58,8 +58,7 @@ fn entry(i: u32, v: f32) {
         shown::text(b" .");
         return;
     }
-    index(i);
-    shown::bits(v);
+    shown::entry(i, v);
 }
 
 // What stands at a place in either list, or `_` if it is a spare place of the state `open`.

@@ -78,27 +78,9 @@ pub fn run(s: Setting, t: Tally) {
     tally(t);
 }
 
-fn entry(index: u32, value: f32) {
-    shown::number(index as u64);
-    shown::text(b":");
-    shown::bits(value);
-}
-
-// The first n entries of two lists.
-fn entries(indexes: &[u32; 48], values: &[f32; 48], n: usize) {
-    let mut at: usize = 0;
-    while at < 48 {
-        if n <= at {
-            return;
-        }
-        entry(indexes[at], values[at]);
-        at += 1;
-    }
-}
-
-fn written(r: Written, indexes: &[u32; 48], values: &[f32; 48]) {
+fn written(r: Written, indexes: &[u32], values: &[f32]) {
     match r {
-        Written::Done(dims, n) => entries(indexes, values, n),
+        Written::Done(dims, n) => shown::entries(indexes, values, n),
         Written::Refused(n, p) => shown::refused(n, p),
     }
 }

@@ -135,14 +135,14 @@ fn entries(
 
 // Reads what follows a label, and runs the call on it. Answers whether it is a case.
 fn case(s: &[u8], bar: usize, call: u8) -> bool {
-    let dims_a = read::dims(s, bar);
+    let dims_a = cases::dims(s, bar);
     let mut ia = [0u32; 16];
     let mut va = [0.0f32; 16];
-    let a = cases::entries(s, dims_a.at, &mut ia, &mut va);
-    let dims_b = read::dims(s, a.at);
+    let a = cases::vector(s, bar, dims_a, &mut ia, &mut va);
+    let dims_b = cases::dims(s, a.at);
     let mut ib = [0u32; 16];
     let mut vb = [0.0f32; 16];
-    let b = cases::entries(s, dims_b.at, &mut ib, &mut vb);
+    let b = cases::vector(s, a.at, dims_b, &mut ib, &mut vb);
     let rest = read::rest(s, b.at);
     if rest.at != s.len() {
         return false;

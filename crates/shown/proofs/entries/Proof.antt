@@ -1,15 +1,14 @@
--- `entries` is safe and ends. The loop has nothing to keep. The measure is what is left of the lists. Assumes nothing.
+-- `entries` is safe and ends. The loop has nothing to keep. The measure is how many entries are left. Assumes nothing.
 use Prim.Native.Nat.{_-_}
 use borrow.Author.Needs.{needs}
-use native.Mathlib.Omega.{arith}
-use Rattle.test_dealing.proofs.show.entries.Statement.{statement}
-use Rattle.test_dealing.proofs.show.entries.Tie as tie
+use Rattle.shown.proofs.entries.Statement.{statement}
+use Rattle.shown.proofs.entries.Tie as tie
 
 abbrev Inv-loop : tie.InvT-loop
 Inv-loop indexes values n at₀ at = Unit
 
 abbrev μ-loop : tie.MeasureT-loop
-μ-loop indexes values n at₀ at = 48 - at
+μ-loop indexes values n at₀ at = n - at
 
 loop-holds : tie.Need-loop-holds Inv-loop μ-loop
 loop-holds c = tt
@@ -18,25 +17,25 @@ returns : tie.Need-returns Inv-loop μ-loop
 returns c = search needs
 
 mul-entry : tie.Need-mul-entry Inv-loop μ-loop
-mul-entry c = omega arith
+mul-entry c = search needs
 
-element-copy-out-entry : tie.Need-element-copy-out-entry Inv-loop μ-loop
-element-copy-out-entry c = omega arith
+shared-slice-read-entry : tie.Need-shared-slice-read-entry Inv-loop μ-loop
+shared-slice-read-entry c = search needs
 
 mul-entry-2 : tie.Need-mul-entry-2 Inv-loop μ-loop
-mul-entry-2 c = omega arith
+mul-entry-2 c = search needs
 
-element-copy-out-entry-2 : tie.Need-element-copy-out-entry-2 Inv-loop μ-loop
-element-copy-out-entry-2 c = omega arith
+shared-slice-read-entry-2 : tie.Need-shared-slice-read-entry-2 Inv-loop μ-loop
+shared-slice-read-entry-2 c = search needs
 
 entry-requires : tie.Need-entry-requires Inv-loop μ-loop
 entry-requires c κs = search needs
 
 add-at : tie.Need-add-at Inv-loop μ-loop
-add-at c = omega arith
+add-at c = search needs
 
 loop-less : tie.Need-loop-less Inv-loop μ-loop
-loop-less c = omega arith
+loop-less c = search needs
 
 loop-again : tie.Need-loop-again Inv-loop μ-loop
 loop-again c = tt
@@ -53,9 +52,9 @@ entries-spec =
     loop-holds
     returns
     mul-entry
-    element-copy-out-entry
+    shared-slice-read-entry
     mul-entry-2
-    element-copy-out-entry-2
+    shared-slice-read-entry-2
     entry-requires
     add-at
     loop-less

@@ -1,19 +1,18 @@
--- `numbers` is safe and ends. The loop's invariant: there are at most seven numbers so far. The measure is how many more there can be.
--- Assumes nothing.
+-- `numbers` is safe, ends, and reads no more numbers than the list has room for. The loop's invariant: so far it read no more, and the list
+-- is as long as it was. The measure is how many more there can be. Assumes nothing.
 use Prim.Native.Nat.{_≤_, _-_}
+use mathlib.Core.Path.{_≡_}
 use borrow.Author.Needs.{needs}
 use native.Mathlib.Omega.{arith}
-use Rattle.test_aggregate.proofs.read.numbers.Statement.{statement}
-use Rattle.test_aggregate.proofs.read.numbers.Tie as tie
+use lib.ListN.{length}
+use Rattle.cases.proofs.numbers.Statement.{statement}
+use Rattle.cases.proofs.numbers.Tie as tie
 
 abbrev Inv-loop : tie.InvT-loop
-Inv-loop s from list₀ many₀ at₀ list many at = many ≤ 7
+Inv-loop s from is-hex list₀ many₀ at₀ list many at = (many ≤ length list₀) × (length list ≡ length list₀)
 
 abbrev μ-loop : tie.MeasureT-loop
-μ-loop s from list₀ many₀ at₀ list many at = 7 - many
-
-next-requires : tie.Need-next-requires Inv-loop μ-loop
-next-requires c κs = search needs
+μ-loop s from is-hex list₀ many₀ at₀ list many at = length list₀ - many
 
 loop-holds : tie.Need-loop-holds Inv-loop μ-loop
 loop-holds c = omega arith
@@ -25,10 +24,10 @@ ends-requires : tie.Need-ends-requires Inv-loop μ-loop
 ends-requires c κs = search needs
 
 mul-list : tie.Need-mul-list Inv-loop μ-loop
-mul-list c = search needs
+mul-list c = omega arith
 
-element-write-list : tie.Need-element-write-list Inv-loop μ-loop
-element-write-list c = omega arith
+slice-write-list : tie.Need-slice-write-list Inv-loop μ-loop
+slice-write-list c = omega arith
 
 add-many : tie.Need-add-many Inv-loop μ-loop
 add-many c = omega arith
@@ -40,10 +39,16 @@ loop-less : tie.Need-loop-less Inv-loop μ-loop
 loop-less c = omega arith
 
 loop-again : tie.Need-loop-again Inv-loop μ-loop
-loop-again c = omega arith
+loop-again c = search needs
+
+same-length : tie.Need-same-length Inv-loop μ-loop
+same-length c = search needs
 
 returns : tie.Need-returns Inv-loop μ-loop
 returns c = search needs
+
+same-length-2 : tie.Need-same-length-2 Inv-loop μ-loop
+same-length-2 c = search needs
 
 returns-2 : tie.Need-returns-2 Inv-loop μ-loop
 returns-2 c = search needs
@@ -54,15 +59,16 @@ numbers-spec =
     (tie.spec
     Inv-loop
     μ-loop
-    next-requires
     loop-holds
     number-requires
     ends-requires
     mul-list
-    element-write-list
+    slice-write-list
     add-many
     after-requires
     loop-less
     loop-again
+    same-length
     returns
+    same-length-2
     returns-2)

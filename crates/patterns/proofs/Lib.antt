@@ -1,0 +1,2 @@
+-- Laws of NaN.
+pub mod Nan
