@@ -178,8 +178,9 @@ fn room_for(op: Op, a: usize, b: usize) -> usize
     }
 }
 
-// Tests two vectors and the room, and writes what they give.
-fn join(
+// Tests two vectors and the room, and writes what they give. Refuses as `sparse::check_pair` does, and then with
+// ROOM, which carries the entries needed.
+pub fn join(
     op: Op,
     dims_a: u32,
     ia: &[u32],
