@@ -1,0 +1,3 @@
+-- The definitions that the contracts of `texts` cite.
+pub mod Texts
+pub mod Puts
