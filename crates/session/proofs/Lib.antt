@@ -1,0 +1,14 @@
+-- Laws for the proofs of `session`, and of sessions as a whole.
+pub mod Fronts
+pub mod Finding
+pub mod Ends
+pub mod Shown
+pub mod Given
+pub mod Asking
+pub mod Enough
+pub mod Digits
+pub mod Respelled
+pub mod Back
+pub mod Only
+pub mod Meaning
+pub mod Limits
