@@ -60,6 +60,7 @@ push (OfItem i b) (vectorLine d is bs) = vectorLine d (i ∷ is) (b ∷ bs)
 push (OfItem i b) badLine = badLine
 push BadItem l = badLine
 
+-- dims alone
 abbrev pub noEntries : Numeral → Line
 noEntries (Of d) = vectorLine d [] []
 noEntries Bad = badLine
@@ -81,7 +82,7 @@ lineOf s = ofWords (words s)
 
 -- ---- `add`, `sub` or `mul`
 
--- what a line means that is to name the operation
+-- what a line means that is to name the operation: it is one of the three words, in bytes, and nothing more
 abbrev pub namedOf : List ℕ → Named
 namedOf s =
     cond (same s (97 ∷ 100 ∷ 100 ∷ [])) (Is Add)

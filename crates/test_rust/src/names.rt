@@ -1,5 +1,5 @@
 // Reads names. A name goes up to a space or the end, and is told by its last eight letters: they are the digits
-// of a number of base 256.
+// of a number of base 256. So `bit` is 0x626974, as `b` is 0x62, `i` is 0x69 and `t` is 0x74.
 
 use cases::Numeral;
 ghost use Prim.Native.Nat.{_<_};

@@ -28,7 +28,7 @@ hex = spelled 16 true 8
 abbrev pub newline : List ℕ
 newline = 10 ∷ []
 
--- ` index:bits`
+-- a space and `index:bits`
 abbrev pub entryText : ℕ → ℕ → List ℕ
 entryText i b = (32 ∷ []) ++ decimal i ++ (58 ∷ []) ++ hex b
 
@@ -42,10 +42,10 @@ entriesText (i ∷ is) (b ∷ bs) = entryText i b ++ entriesText is bs
 abbrev pub vectorText : ℕ → List ℕ → List ℕ → List ℕ
 vectorText d is bs = decimal d ++ entriesText is bs ++ newline
 
--- "A refusal prints `refused N P`."
+-- "A refusal prints `refused N P`."; the bytes in front are `refused `
 abbrev pub refusedText : ℕ → ℕ → List ℕ
 refusedText n p = (114 ∷ 101 ∷ 102 ∷ 117 ∷ 115 ∷ 101 ∷ 100 ∷ 32 ∷ []) ++ decimal n ++ (32 ∷ []) ++ decimal p ++ newline
 
--- "`bad line L`"
+-- "`bad line L` names the first bad, missing or extra line"; the bytes in front are `bad line `
 abbrev pub badText : ℕ → List ℕ
 badText l = (98 ∷ 97 ∷ 100 ∷ 32 ∷ 108 ∷ 105 ∷ 110 ∷ 101 ∷ 32 ∷ []) ++ decimal l ++ newline
