@@ -13,19 +13,20 @@ use Rattle.places.specs.Below.{countBelow}
 use Rattle.places.proofs.Below.{le-or-lt}
 use Rattle.sparse.specs.Cells.{indexesBelow, valuesBelow}
 use Rattle.sparse.specs.Vectors.{Vector, vector, size, at, inUnion}
-use Rattle.sparse.specs.Walk.{Rising, Split, Sound, Taken, Standing, Turned, Put}
+use Rattle.sparse.specs.Walk.{Rising, Split, Sound, Taken, Standing, Turned}
 use Rattle.sparse.specs.declared.Cell.{Cell}
 use Rattle.sparse.specs.declared.Turn.{Turn}
 use Rattle.sparse.proofs.Checks.{size-most}
 use Rattle.sparse.proofs.Entries.{entries-most, as-many, written-lengths}
 use Rattle.sparse.proofs.Walk.{Going}
-use Rattle.merges.specs.Algebra.{added, joins}
+use Rattle.merges.specs.Algebra.{joins}
 use Rattle.merges.specs.declared.Op.the-variants.{Add}
 use Rattle.merges.proofs.Made.{joinAt, Made, Merging, merging-more, merging-end}
 use Rattle.regions.specs.Regions.{part}
 use Rattle.regions.proofs.Stands.{past-front, stands-front}
 use Rattle.in_place.specs.Turns.{firstIndex, rowTurns}
-use Rattle.in_place.specs.Loops.{around, Raised, Grown}
+use Rattle.in_place.specs.Loops.{around, Steady, Stepped, Raised, Grown}
+use Rattle.in_place.specs.declared.Step.{Step}
 use Rattle.in_place.proofs.Rest.{turned-left, around-from}
 use Rattle.in_place.proofs.First.{first-most, first-split, written-before, turns-from}
 
@@ -148,7 +149,7 @@ module _ {d : ℕ} {b : Vector} {low gap cap : ℕ} {si : List ℕ} {sv : List F
         left sv sv′ (valuesBelow (joinAt Add a b) (g .front)) (r .roomy .long′) (w .values) (as-many (joinAt Add a b) (g .front) ∙ w .count)
 
     module _ (h : at + q < cap + size b) where
-      pub climbing-standing : Standing (part at (cap - at) si′) (part at (cap - at) sv′) 0 (b .indexes) (b .values) q
+      climbing-standing : Standing (part at (cap - at) si′) (part at (cap - at) sv′) 0 (b .indexes) (b .values) q
       climbing-standing =
           let i = length-drop (c .p) (a .indexes) in
           let v = length-drop (c .p) (a .values) in
@@ -165,7 +166,7 @@ module _ {d : ℕ} {b : Vector} {low gap cap : ℕ} {si : List ℕ} {sv : List F
           })
 
       -- a turn passes no more than there is
-      pub turn-within : {t : Turn} → Turned (part at (cap - at) si′) (part at (cap - at) sv′) 0 (b .indexes) (b .values) q t
+      turn-within : {t : Turn} → Turned (part at (cap - at) si′) (part at (cap - at) sv′) 0 (b .indexes) (b .values) q t
           → (at + t .p ≤ cap) × (t .q ≤ size b)
       turn-within {t} u =
           let n = length-drop (c .p) (a .indexes) in
@@ -192,21 +193,40 @@ module _ {d : ℕ} {b : Vector} {low gap cap : ℕ} {si : List ℕ} {sv : List F
           (λ all. omega (arith, all, written-most, place-left))
           (r .roomy .spare)
 
-      pub room-left : (n < length si) × (n < length sv)
-      room-left = (omega (arith, under, r .roomy .long), omega (arith, under, r .roomy .long′))
+      pub climbing-steady : Steady si′ sv′ at cap n (b .indexes) (b .values) q
+      climbing-steady = record {
+        order = reached;
+        long = omega (arith, lengths .0, r .roomy .long);
+        long′ = omega (arith, lengths .1, r .roomy .long′);
+        standing = climbing-standing;
+        room = omega (arith, under, lengths .0, r .roomy .long);
+        room′ = omega (arith, under, lengths .1, r .roomy .long′);
+      }
 
-      pub climbing-more : {t : Turn} → Turned (part at (cap - at) si′) (part at (cap - at) sv′) 0 (b .indexes) (b .values) q t
-          → {z : Cell} {n′ : ℕ} {si″ : List ℕ} {sv″ : List Float} → z ≡ added (t .x) (t .y) → Put z (t .place) n si′ sv′ n′ si″ sv″
-          → Climbing a b low gap si sv si″ sv″ (at + t .p) (t .q) n′ (turns + 1)
-      climbing-more {t} u e put =
-          let v : Turned (drop (c .p) (a .indexes)) (drop (c .p) (a .values)) 0 (b .indexes) (b .values) q t = rw (left-indexes, left-values) at u in
-          record {
-            p = c .p + t .p;
-            from = omega (arith, c .from);
-            stands = omega (arith, c .stands);
-            merging = merging-more sa sb (c .merging) (r .roomy .same) (turned-left (a .indexes) (a .values) (c .p) v)
-                (room-left .0) (room-left .1) e put;
-          }
+      module _ {s : Step} {si″ : List ℕ} {sv″ : List Float} (m : Stepped si′ sv′ at cap n (b .indexes) (b .values) q s si″ sv″) where
+        -- a turn passes no more than there is, and one entry at least
+        pub step-within : (at + s .taken ≤ cap) × (s .q ≤ size b) × (q < s .taken + s .q)
+        step-within =
+            let within = turn-within (m .turned) in (
+              omega (arith, within .0, m .left),
+              omega (arith, within .1, m .right),
+              omega (arith, m .turned .some, m .left, m .right),
+            )
+
+        pub climbing-more : Climbing a b low gap si sv si″ sv″ (at + s .taken) (s .q) (s .n) (turns + 1)
+        climbing-more =
+            let t = m .turn in
+            let v : Turned (drop (c .p) (a .indexes)) (drop (c .p) (a .values)) 0 (b .indexes) (b .values) q t =
+            rw (left-indexes, left-values) at (m .turned)
+            in
+            rw (m .left, m .right)
+            (record {
+              p = c .p + t .p;
+              from = omega (arith, c .from);
+              stands = omega (arith, c .stands);
+              merging = merging-more sa sb (c .merging) (r .roomy .same) (turned-left (a .indexes) (a .values) (c .p) v)
+                  (omega (arith, under, r .roomy .long)) (omega (arith, under, r .roomy .long′)) refl (m .put);
+            })
 
     pub climbing-end : cap + size b ≤ at + q → Grown (joins Add a b) (rowTurns a b) cap si sv (record { len = n; turns = turns }) si′ sv′
     climbing-end h =

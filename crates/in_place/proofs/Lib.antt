@@ -2,5 +2,6 @@
 pub mod Moved
 pub mod Rest
 pub mod First
+pub mod Steps
 pub mod Climbs
 pub mod Whole

@@ -3,13 +3,11 @@ use Prim.Native.Nat.{ℕ, zero, suc, _+_, _≤_, _<_}
 use native.Mathlib.Nat.{eq-or-lt-of-le, le-of-suc-le-suc}
 use native.Mathlib.Numerals.{add-one}
 use native.Mathlib.Omega.{arith}
-use mathlib.Core.Bool.{Bool, true, false, not, _&&_, _||_, or-true, true≢false}
+use mathlib.Core.Bool.{Bool, true, false, _&&_, _||_, or-true, or-false, true≢false}
 use mathlib.Core.List.{List, [], _∷_, _++_, append-assoc}
 use mathlib.Core.Logic.{_⊎_, inl, inr, ⊎-elim}
 use native.Mathlib.Decide.{decLe}
 use mathlib.Core.Path.{_≡_, refl, sym, ap, ap₂, _∙_}
-use borrow.Author.Tests.{ne-eqb}
-use lib.Dec.{eqb}
 use lib.ListN.{length, getD, set, take, drop, length-append, length-drop, List·getD-append}
 use lib.Seq.{drop-cons, set-at, getD-at, getD-take, length-take-le, ext-getD}
 use Rattle.places.specs.Below.{one, countBelow, anyBelow, listBelow}
@@ -95,20 +93,6 @@ any-false t (suc n) i e h = go (anyBelow t n) (t n) refl refl e (any-false t n i
     go false true p q r rest = absurd (true≢false r)
     go true b p q r rest = absurd (true≢false r)
 
--- a count tells whether there is one
-pub any-count : (t : ℕ → Bool) (n : ℕ) → anyBelow t n ≡ not (eqb (countBelow t n) 0)
-unfolding anyBelow countBelow
-any-count t zero = refl
-any-count t (suc n) = go (t n) (countBelow t n) (any-count t n)
-  where
-    go : (b : Bool) (m : ℕ) → anyBelow t n ≡ not (eqb m 0) → (anyBelow t n || b) ≡ not (eqb (m + one b) 0)
-    go true m e = rw (or-true, ne-eqb (m + 1) 0 (λ z. omega arith))
-    go false m e = let z : m + 0 ≡ m = omega arith in rw z (go′ (anyBelow t n) e)
-      where
-        go′ : (a : Bool) → a ≡ not (eqb m 0) → (a || false) ≡ not (eqb m 0)
-        go′ true q = q
-        go′ false q = q
-
 pub any-none : (t : ℕ → Bool) (n : ℕ) → ((i : ℕ) → i < n → t i ≡ false) → anyBelow t n ≡ false
 unfolding anyBelow
 any-none t zero all = refl
@@ -122,6 +106,14 @@ any-true t (suc n) i h e =
     (λ same. let q : t n ≡ true = rw (← same) e in rw (q, or-true))
     (λ l. rw (any-true t n i (omega arith) e))
     (eq-or-lt-of-le (le-of-suc-le-suc h))
+
+-- one place more, which passes the test or not
+pub any-hit : (t : ℕ → Bool) (i : ℕ) → t i ≡ true → true ≡ anyBelow t (i + 1)
+any-hit t i e = sym (any-true t (i + 1) i (omega arith) e)
+
+pub any-miss : (t : ℕ → Bool) (i : ℕ) (b : Bool) → t i ≡ false → b ≡ anyBelow t i → b ≡ anyBelow t (i + 1)
+unfolding anyBelow
+any-miss t i b e f = let s : i + 1 ≡ suc i = omega arith in rw (s, e, or-false) f
 
 -- ---- lists
 

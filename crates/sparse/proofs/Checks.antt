@@ -9,9 +9,9 @@ use mathlib.Core.Path.{_≡_, sym, ap, _∙_}
 use lib.Dec.{leb, eqb}
 use lib.ListN.{length, getD}
 use borrow.Author.Tests.{eq-eqb, ne-eqb, lt-ltb, le-ltb, lt-leb, eqb-true, leb-false, not-false}
-use Rattle.places.specs.Below.{countBelow, anyBelow}
+use Rattle.places.specs.Below.{anyBelow}
 use Rattle.places.specs.Search.{firstFrom}
-use Rattle.places.proofs.Below.{le-or-lt, any-count, any-false, any-none}
+use Rattle.places.proofs.Below.{le-or-lt, any-false, any-none}
 use Rattle.refusal.specs.declared.Checked.the-variants.{Valid, Refused}
 use Rattle.refusal.proofs.Chains.{next-valid, refuse-valid, differ-valid}
 use Rattle.refusal.proofs.Dims.{in-range, range-in}
@@ -19,13 +19,6 @@ use Rattle.sparse.specs.Vectors.{Vector, vector, size}
 use Rattle.sparse.specs.Calls.{badDims, falls, tooHigh, zeroAt, checkedOf, eachOf, pairOf}
 use Rattle.sparse.specs.Walk.{Rising, Sound}
 use Rattle.sparse.proofs.Falls.{rises, falls-at, first-rises}
-
--- a count that is not 0 found one
-some-any : (t : ℕ → Bool) (n : ℕ) → (countBelow t n ≡ 0 → ⊥) → anyBelow t n ≡ true
-some-any t n h = any-count t n ∙ ap not (ne-eqb (countBelow t n) 0 h)
-
-none-any : (t : ℕ → Bool) (n : ℕ) → countBelow t n ≡ 0 → anyBelow t n ≡ false
-none-any t n h = any-count t n ∙ ap not (eq-eqb (countBelow t n) 0 h)
 
 -- an index that is too high is there
 pub high-some : (d : ℕ) (is : List ℕ) → tooHigh d is ≡ true → 1 ≤ length is
@@ -44,38 +37,38 @@ module _ (v : Vector) where
     refused-length other = rw (in-range 1048575 (v .dims) l h, ne-eqb (size v) (length (v .values)) other)
 
     module _ (even : size v ≡ length (v .values)) where
-      pub refused-order : (countBelow (falls (v .indexes)) (size v) ≡ 0 → ⊥) → checkedOf v ≡ Refused 3 (firstFrom (falls (v .indexes)) (size v) 0)
+      pub refused-order : anyBelow (falls (v .indexes)) (size v) ≡ true → checkedOf v ≡ Refused 3 (firstFrom (falls (v .indexes)) (size v) 0)
       unfolding checkedOf
-      refused-order some = rw (in-range 1048575 (v .dims) l h, eq-eqb (size v) (length (v .values)) even, some-any (falls (v .indexes)) (size v) some)
+      refused-order some = rw (in-range 1048575 (v .dims) l h, eq-eqb (size v) (length (v .values)) even, some)
 
-      module _ (up : countBelow (falls (v .indexes)) (size v) ≡ 0) where
+      module _ (up : anyBelow (falls (v .indexes)) (size v) ≡ false) where
         pub refused-index : tooHigh (v .dims) (v .indexes) ≡ true → checkedOf v ≡ Refused 4 (size v - 1)
         unfolding checkedOf
         refused-index high =
-            rw (in-range 1048575 (v .dims) l h, eq-eqb (size v) (length (v .values)) even, none-any (falls (v .indexes)) (size v) up, high)
+            rw (in-range 1048575 (v .dims) l h, eq-eqb (size v) (length (v .values)) even, up, high)
 
         module _ (low : tooHigh (v .dims) (v .indexes) ≡ false) where
-          pub refused-zero : (countBelow (zeroAt (v .values)) (length (v .values)) ≡ 0 → ⊥)
+          pub refused-zero : anyBelow (zeroAt (v .values)) (length (v .values)) ≡ true
               → checkedOf v ≡ Refused 5 (firstFrom (zeroAt (v .values)) (length (v .values)) 0)
           unfolding checkedOf
           refused-zero some =
               rw (
                 in-range 1048575 (v .dims) l h,
                 eq-eqb (size v) (length (v .values)) even,
-                none-any (falls (v .indexes)) (size v) up,
+                up,
                 low,
-                some-any (zeroAt (v .values)) (length (v .values)) some,
+                some,
               )
 
-          pub passes : countBelow (zeroAt (v .values)) (length (v .values)) ≡ 0 → checkedOf v ≡ Valid
+          pub passes : anyBelow (zeroAt (v .values)) (length (v .values)) ≡ false → checkedOf v ≡ Valid
           unfolding checkedOf
           passes none =
               rw (
                 in-range 1048575 (v .dims) l h,
                 eq-eqb (size v) (length (v .values)) even,
-                none-any (falls (v .indexes)) (size v) up,
+                up,
                 low,
-                none-any (zeroAt (v .values)) (length (v .values)) none,
+                none,
               )
 
 -- ---- a vector that passed, and back

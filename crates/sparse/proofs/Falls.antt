@@ -1,13 +1,14 @@
 -- When an entry's index falls: it is not above the one before. Assumes nothing.
-use Prim.Native.Nat.{ℕ, zero, suc, _-_, _≤_, _<_}
+use Prim.Native.Nat.{ℕ, _-_, _≤_, _<_}
 use native.Mathlib.Omega.{arith}
 use mathlib.Core.Bool.{true, false}
 use mathlib.Core.List.{List}
-use mathlib.Core.Path.{_≡_, refl}
+use mathlib.Core.Path.{_≡_}
 use lib.Dec.{leb}
 use lib.ListN.{getD}
 use borrow.Author.Tests.{lt-ltb, le-ltb, le-leb, lt-leb}
-use Rattle.places.specs.Below.{countBelow}
+use Rattle.places.specs.Below.{anyBelow}
+use Rattle.places.proofs.Below.{any-none}
 use Rattle.sparse.specs.Calls.{falls}
 
 pub rises : (is : List ℕ) (i : ℕ) → 0 < i → getD is (i - 1) 0 < getD is i 0 → falls is i ≡ false
@@ -24,7 +25,5 @@ pub first-rises : (is : List ℕ) (i : ℕ) → i < 1 → falls is i ≡ false
 first-rises is i h = rw (le-ltb 0 i (omega arith))
 
 -- no or one entry: none falls
-pub short : (is : List ℕ) (n : ℕ) → n ≤ 1 → countBelow (falls is) n ≡ 0
-unfolding countBelow
-short is zero h = refl
-short is (suc n) h = let e : n ≡ 0 = omega arith in rw e
+pub short : (is : List ℕ) (n : ℕ) → n ≤ 1 → anyBelow (falls is) n ≡ false
+short is n h = any-none (falls is) n (λ i l. first-rises is i (omega arith))

@@ -1,5 +1,4 @@
 -- Laws of sparse vectors.
-pub mod Counts
 pub mod Falls
 pub mod Checks
 pub mod Look

@@ -5,7 +5,7 @@ use refusal::Checked;
 ghost use mathlib.Core.Path.{_≡_};
 ghost use Prim.Native.Nat.{_+_, _<_, min};
 ghost use lib.ListN.{length};
-ghost use Rattle.places.specs.Below.{one, countBelow};
+ghost use Rattle.places.specs.Below.{anyBelow};
 ghost use Rattle.places.specs.Search.{firstFrom};
 ghost use Rattle.refusal.specs.Answers.{Checks};
 ghost use Rattle.sparse.specs.Cells.{keep};
@@ -20,26 +20,22 @@ pub enum Cell {
     Full(f32),
 }
 
-// 1 for true.
-fn one_if(test: bool) -> usize
-    ensures { λ r. ⌜ r ≡ one test ⌝ }
+// Whether some index is not above the one before. All are looked at, so that the compiler can take several at
+// once; so in `some_zero`.
+fn some_fall(indexes: &[u32]) -> bool
+    ensures { λ r. ⌜ r ≡ anyBelow (falls (now (indexes .entry))) (length (now (indexes .entry))) ⌝ }
 {
-    if test { 1 } else { 0 }
-}
-
-// How many indexes are not above the one before.
-fn count_falls(indexes: &[u32]) -> usize
-    ensures { λ r. ⌜ r ≡ countBelow (falls (now (indexes .entry))) (length (now (indexes .entry))) ⌝ }
-{
-    let mut n: usize = 0;
+    let mut found = false;
     let mut i: usize = 1;
     while i < indexes.len() {
-        let low = indexes[i - 1];
-        let high = indexes[i];
-        n += one_if(high <= low);
+        let before = indexes[i - 1];
+        let here = indexes[i];
+        if here <= before {
+            found = true;
+        }
         i += 1;
     }
-    n
+    found
 }
 
 // The first entry whose index is not above the one before, or the length.
@@ -68,18 +64,20 @@ fn too_high(dims: u32, indexes: &[u32]) -> bool
     dims <= indexes[indexes.len() - 1]
 }
 
-// How many values are zero.
-fn count_zeros(values: &[f32]) -> usize
-    ensures { λ r. ⌜ r ≡ countBelow (zeroAt (now (values .entry))) (length (now (values .entry))) ⌝ }
+// Whether some value is zero.
+fn some_zero(values: &[f32]) -> bool
+    ensures { λ r. ⌜ r ≡ anyBelow (zeroAt (now (values .entry))) (length (now (values .entry))) ⌝ }
 {
-    let mut n: usize = 0;
+    let mut found = false;
     let mut i: usize = 0;
     while i < values.len() {
-        let v = values[i];
-        n += one_if(v == 0.0);
+        let value = values[i];
+        if value == 0.0 {
+            found = true;
+        }
         i += 1;
     }
-    n
+    found
 }
 
 // The first entry whose value is zero, or the length.
@@ -98,7 +96,7 @@ fn first_zero(values: &[f32]) -> usize
 }
 
 // Whether these are a sparse vector of `dims` places. Refuses with DIMS, LENGTH, ORDER, INDEX, ZERO.
-// Bad entries are counted, and looked for only where there is one.
+// A bad entry is looked for only where there is one.
 pub fn check(dims: u32, indexes: &[u32], values: &[f32]) -> Checked
     ensures { λ r. ⌜ Checks (checkedOf (vector dims (now (indexes .entry)) (now (values .entry)))) r ⌝ }
 {
@@ -111,13 +109,13 @@ pub fn check(dims: u32, indexes: &[u32], values: &[f32]) -> Checked
     if indexes.len() != values.len() {
         return Checked::Refused(refusal::LENGTH, 0);
     }
-    if count_falls(indexes) != 0 {
+    if some_fall(indexes) {
         return Checked::Refused(refusal::ORDER, first_fall(indexes));
     }
     if too_high(dims, indexes) {
         return Checked::Refused(refusal::INDEX, indexes.len() - 1);
     }
-    if count_zeros(values) != 0 {
+    if some_zero(values) {
         return Checked::Refused(refusal::ZERO, first_zero(values));
     }
     Checked::Valid

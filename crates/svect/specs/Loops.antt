@@ -25,11 +25,15 @@ pub record Reach (a b : Vector) (n : ℕ) : Type 0 where
 abbrev pub firstOther : Vector → Vector → ℕ → ℕ
 firstOther a b n = firstFrom (λ i. not (sameEntry a b i)) n 0
 
--- n entries from s on have indexes not below `start`, and there is room for them
+-- the indexes from the entry s on are not below `start`
+abbrev pub Above : List ℕ → ℕ → ℕ → Type 0
+Above is s start = (j : ℕ) → s ≤ j → j < length is → start ≤ getD is j 0
+
+-- n entries from s on have such indexes, and there is room for them
 pub record Part (is : List ℕ) (vs : List Float) (s n start : ℕ) (oi : List ℕ) (ov : List Float) : Type 0 where
   pub even : length is ≡ length vs
   pub within : s + n ≤ length is
-  pub above : (j : ℕ) → s ≤ j → j < length is → start ≤ getD is j 0
+  pub above : Above is s start
   pub room : n ≤ length oi
   pub room′ : n ≤ length ov
 

@@ -13,7 +13,11 @@ use refusal::Ordering;
 use refusal::Span;
 use refusal::Written;
 ghost use mathlib.Core.Path.{_≡_};
-ghost use lib.ListN.{length};
+ghost use mathlib.Core.List.{_++_};
+ghost use Prim.Native.Nat.{_+_, _-_, _≤_};
+ghost use lib.ListN.{length, getD, drop};
+ghost use lib.Ieee.{nan};
+ghost use Rattle.places.specs.Below.{listBelow};
 ghost use Rattle.refusal.specs.Answers.{Checks};
 ghost use Rattle.sparse.specs.Vectors.{vector};
 ghost use Rattle.sparse.specs.Calls.{checkedOf};
@@ -22,7 +26,7 @@ ghost use Rattle.merges.specs.declared.Op.the-variants.{Add, Sub, Mul};
 ghost use Rattle.folds.specs.Calls.{Dots, L2s, SumsThree};
 ghost use Rattle.svect.specs.Orders.{decided};
 ghost use Rattle.svect.specs.Calls.{Zeroes, Cuts, Equals, Compares};
-ghost use Rattle.svect.specs.Loops.{entries, Reach, firstOther, Part, Moved};
+ghost use Rattle.svect.specs.Loops.{entries, Reach, firstOther, Above, Part, Moved};
 
 // Whether these are a sparse vector of `dims` places. Refuses with DIMS, LENGTH, ORDER, INDEX, ZERO.
 pub fn new_checked(dims: u32, indexes: &[u32], values: &[f32]) -> Checked
@@ -136,7 +140,32 @@ pub fn operator_mul(
     merges::mul(dims_a, ia, va, dims_b, ib, vb, oi, ov)
 }
 
-// Writes the n entries from `s` on, their indexes less `start`.
+// Writes the n indexes from `s` on, less `start`.
+fn move_indexes(indexes: &[u32], s: usize, n: usize, start: u32, oi: &mut [u32])
+    requires { ⌜ (s + n ≤ length (now indexes)) × (n ≤ length (now oi)) ⌝ }
+    requires { ⌜ Above (now indexes) s start ⌝ }
+    ensures { λ r. ⌜ now (oi .exit) ≡ listBelow (λ j. getD (now (indexes .entry)) (s + j) 0 - start) n ++ drop n (now (oi .entry)) ⌝ }
+{
+    let mut j: usize = 0;
+    while j < n {
+        oi[j] = indexes[s + j] - start;
+        j += 1;
+    }
+}
+
+// Writes the n values from `s` on.
+fn move_values(values: &[f32], s: usize, n: usize, ov: &mut [f32])
+    requires { ⌜ (s + n ≤ length (now values)) × (n ≤ length (now ov)) ⌝ }
+    ensures { λ r. ⌜ now (ov .exit) ≡ listBelow (λ j. getD (now (values .entry)) (s + j) nan) n ++ drop n (now (ov .entry)) ⌝ }
+{
+    let mut j: usize = 0;
+    while j < n {
+        ov[j] = values[s + j];
+        j += 1;
+    }
+}
+
+// Writes the n entries from `s` on, their indexes less `start`. Two walks are faster than one over four lists.
 fn move_part(
     indexes: &[u32],
     values: &[f32],
@@ -149,12 +178,8 @@ fn move_part(
     requires { ⌜ Part (now indexes) (now values) s n start (now oi) (now ov) ⌝ }
     ensures { λ r. ⌜ Moved (now (indexes .entry)) (now (values .entry)) s n start (now (oi .entry)) (now (ov .entry)) (now (oi .exit)) (now (ov .exit)) ⌝ }
 {
-    let mut j: usize = 0;
-    while j < n {
-        oi[j] = indexes[s + j] - start;
-        ov[j] = values[s + j];
-        j += 1;
-    }
+    move_indexes(indexes, s, n, start, oi);
+    move_values(values, s, n, ov);
 }
 
 // Writes the places that the bounds name to the front of `oi` and `ov`, and answers their dims and

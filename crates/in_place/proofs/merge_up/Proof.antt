@@ -7,37 +7,37 @@ use borrow.Author.Needs.{needs}
 use Rattle.sparse.specs.Vectors.{vector}
 use Rattle.sparse.proofs.Checks.{sizes-most}
 use Rattle.sparse.proofs.Walk.{passed}
-use Rattle.in_place.proofs.Climbs.{Climbing, lying, climbing-start, climbing-standing, climbing-more, climbing-end}
-use Rattle.in_place.proofs.Climbs.{reached, lengths, turn-within, room-left}
+use Rattle.in_place.proofs.Climbs.{Climbing, lying, climbing-start, climbing-steady, climbing-more, climbing-end}
+use Rattle.in_place.proofs.Climbs.{reached, lengths, step-within}
 use Rattle.in_place.proofs.merge_up.Statement.{statement}
 use Rattle.in_place.proofs.merge_up.Tie as tie
 
 abbrev Inv-loop : tie.InvT-loop
-Inv-loop dims si₀ sv₀ low gap cap ib vb at₀ q₀ n₀ turns₀ si sv at q n turns =
+Inv-loop dims si₀ sv₀ low gap cap ib vb at₀ even q₀ n₀ turns₀ si sv at q n turns =
     Climbing (lying dims low gap cap si₀ sv₀) (vector dims ib vb) low gap si₀ sv₀ si sv at q n turns
 
 abbrev μ-loop : tie.MeasureT-loop
-μ-loop dims si₀ sv₀ low gap cap ib vb at₀ q₀ n₀ turns₀ si sv at q n turns = cap + length ib - (at + q)
+μ-loop dims si₀ sv₀ low gap cap ib vb at₀ even q₀ n₀ turns₀ si sv at q n turns = cap + length ib - (at + q)
 
 -- before the loop
 abbrev start : tie.At-loop Inv-loop μ-loop → tie.Start Inv-loop μ-loop
 start c = c .before .before .before .before .before
 
--- the store of a turn, the turn itself, and the loop where it began
-abbrev stored : tie.After-struct-known Inv-loop μ-loop → tie.After-put Inv-loop μ-loop
-stored c = c .before .before .before .before .before
+-- a turn, and the loop where it began
+abbrev stepped : tie.After-struct-known Inv-loop μ-loop → tie.After-any-step Inv-loop μ-loop
+stepped c = c .before .before .before .before .before
 
-abbrev turn : tie.After-put Inv-loop μ-loop → tie.After-one-turn Inv-loop μ-loop
-turn c = c .before .before .before .before
-
-abbrev inner : tie.After-one-turn Inv-loop μ-loop → tie.In-loop Inv-loop μ-loop
-inner c = c .before .before .before .before .before
+abbrev inner : tie.After-any-step Inv-loop μ-loop → tie.In-loop Inv-loop μ-loop
+inner c = c .before .before .before
 
 abbrev walked : tie.After-struct-known Inv-loop μ-loop → tie.At-loop Inv-loop μ-loop
-walked c = inner (turn (stored c)) .before
+walked c = inner (stepped c) .before
 
 add-at : tie.Need-add-at Inv-loop μ-loop
 add-at c = search needs
+
+sub-even : tie.Need-sub-even Inv-loop μ-loop
+sub-even c = let r = c .before .before .before .before .pre in omega (arith, r .far, r .split .within)
 
 loop-holds : tie.Need-loop-holds Inv-loop μ-loop
 loop-holds c = climbing-start (c .before .before .before .before .pre)
@@ -50,52 +50,16 @@ add-loop c =
 add-loop-2 : tie.Need-add-loop-2 Inv-loop μ-loop
 add-loop-2 c = search needs
 
-mul-one-turn : tie.Need-mul-one-turn Inv-loop μ-loop
-mul-one-turn c = search needs
-
-sub-one-turn : tie.Need-sub-one-turn Inv-loop μ-loop
-sub-one-turn c = search needs
-
-part-one-turn-start : tie.Need-part-one-turn-start Inv-loop μ-loop
-part-one-turn-start c = search needs
-
-part-one-turn-end : tie.Need-part-one-turn-end Inv-loop μ-loop
-part-one-turn-end c = let l = c .before .before in omega (arith, lengths (start l .pre) (l .loop .inv) .0, start l .pre .roomy .long)
-
-mul-one-turn-2 : tie.Need-mul-one-turn-2 Inv-loop μ-loop
-mul-one-turn-2 c = search needs
-
-sub-one-turn-2 : tie.Need-sub-one-turn-2 Inv-loop μ-loop
-sub-one-turn-2 c = search needs
-
-part-one-turn-start-2 : tie.Need-part-one-turn-start-2 Inv-loop μ-loop
-part-one-turn-start-2 c = search needs
-
-part-one-turn-end-2 : tie.Need-part-one-turn-end-2 Inv-loop μ-loop
-part-one-turn-end-2 c =
-    let l = c .before .before .before .before in
-    omega (arith, lengths (start l .pre) (l .loop .inv) .1, start l .pre .roomy .long′)
-
-one-turn-requires : tie.Need-one-turn-requires Inv-loop μ-loop
-one-turn-requires c κs =
-    let l = c .before .before .before .before .before in
-    climbing-standing (start l .pre) (l .loop .inv) (omega arith)
-
-add-cells-requires : tie.Need-add-cells-requires Inv-loop μ-loop
-add-cells-requires c κs = search needs
-
-put-requires : tie.Need-put-requires Inv-loop μ-loop
-put-requires c κs =
-    let l = c .before .before .before .before .before .before .before .before .before in
-    let e = lengths (start l .pre) (l .loop .inv) in
-    let room = room-left (start l .pre) (l .loop .inv) (omega arith) in
-    (omega (arith, room .0, e .0), omega (arith, room .1, e .1))
+any-step-requires : tie.Need-any-step-requires Inv-loop μ-loop
+any-step-requires c κs =
+    let l = c .before .before .before in
+    climbing-steady (start l .pre) (l .loop .inv) (omega arith)
 
 add-at-2 : tie.Need-add-at-2 Inv-loop μ-loop
 add-at-2 c =
     let l = walked c in
-    let t = turn (stored c) in
-    omega (arith, turn-within (start l .pre) (l .loop .inv) (inner t .loop-test .taken) (t .one-turn .ensures) .0)
+    let t = stepped c in
+    omega (arith, step-within (start l .pre) (l .loop .inv) (inner t .loop-test .taken) (t .any-step .ensures) .0)
 
 add-turns : tie.Need-add-turns Inv-loop μ-loop
 add-turns c =
@@ -106,17 +70,15 @@ add-turns c =
 loop-less : tie.Need-loop-less Inv-loop μ-loop
 loop-less c =
     let l = walked c in
-    let t = turn (stored c) in
-    let most = turn-within (start l .pre) (l .loop .inv) (inner t .loop-test .taken) (t .one-turn .ensures) in
-    omega (arith, most .0, most .1, t .one-turn .ensures .some)
+    let t = stepped c in
+    let most = step-within (start l .pre) (l .loop .inv) (inner t .loop-test .taken) (t .any-step .ensures) in
+    omega (arith, most .0, most .1, most .2)
 
 loop-again : tie.Need-loop-again Inv-loop μ-loop
 loop-again c =
     let l = walked c in
-    let s = stored c in
-    let t = turn s in
-    climbing-more (start l .pre) (l .loop .inv) (inner t .loop-test .taken) (t .one-turn .ensures) (s .before .before .before .add-cells .ensures)
-    (s .put .ensures)
+    let t = stepped c in
+    climbing-more (start l .pre) (l .loop .inv) (inner t .loop-test .taken) (t .any-step .ensures)
 
 same-length : tie.Need-same-length Inv-loop μ-loop
 same-length c = lengths (start (c .before) .pre) (c .before .loop .inv) .0
@@ -134,20 +96,11 @@ merge-up-spec =
     Inv-loop
     μ-loop
     add-at
+    sub-even
     loop-holds
     add-loop
     add-loop-2
-    mul-one-turn
-    sub-one-turn
-    part-one-turn-start
-    part-one-turn-end
-    mul-one-turn-2
-    sub-one-turn-2
-    part-one-turn-start-2
-    part-one-turn-end-2
-    one-turn-requires
-    add-cells-requires
-    put-requires
+    any-step-requires
     add-at-2
     add-turns
     loop-less

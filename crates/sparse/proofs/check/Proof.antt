@@ -5,7 +5,7 @@ use mathlib.Core.Bool.{true, false}
 use mathlib.Core.Path.{_≡_, sym, ap, _∙_}
 use lib.ListN.{length}
 use borrow.Author.Needs.{needs}
-use Rattle.places.specs.Below.{countBelow}
+use Rattle.places.specs.Below.{anyBelow}
 use Rattle.refusal.specs.declared.Checked.the-variants.{Refused}
 use Rattle.refusal.proofs.Dims.{some, zero-outside, high-outside}
 use Rattle.refusal.proofs.Told.{checked-answer}
@@ -32,8 +32,8 @@ high c = omega arith
 even : (c : tie.Else3) → let v = given (c .before) in size v ≡ length (v .values)
 even c = c .if3 .left
 
-rising : (c : tie.Else4) → let v = given (ranged c) in countBelow (falls (v .indexes)) (size v) ≡ 0
-rising c = sym (c .before .count-falls .ensures) ∙ c .if4 .left
+rising : (c : tie.Else4) → let v = given (ranged c) in anyBelow (falls (v .indexes)) (size v) ≡ false
+rising c = sym (c .before .some-fall .ensures) ∙ c .if4 .left
 
 above : (c : tie.Then5) → let v = given (ranged (c .before .before)) in tooHigh (v .dims) (v .indexes) ≡ true
 above c = sym (c .before .too-high .ensures) ∙ c .if5 .taken
@@ -50,8 +50,8 @@ returns-2 c = checked-answer (sym (refused-dims _ (high-outside 1048575 (c .befo
 returns-3 : tie.Need-returns-3
 returns-3 c = let t = c .before in checked-answer (sym (refused-length (given t) (low t) (high t) (c .if3 .taken)))
 
-count-falls-requires : tie.Need-count-falls-requires
-count-falls-requires c κs = search needs
+some-fall-requires : tie.Need-some-fall-requires
+some-fall-requires c κs = search needs
 
 first-fall-requires : tie.Need-first-fall-requires
 first-fall-requires c κs = search needs
@@ -64,13 +64,13 @@ returns-4 c =
     (ap (Refused 3) (c .first-fall .ensures)
     ∙ sym
     (refused-order (given t) (low t) (high t) (even u)
-    (λ none. c .before .if4 .taken (c .before .before .count-falls .ensures ∙ none))))
+    (sym (c .before .before .some-fall .ensures) ∙ c .before .if4 .taken)))
 
 too-high-requires : tie.Need-too-high-requires
 too-high-requires c κs = search needs
 
-sub-t10 : tie.Need-sub-t10
-sub-t10 c = let v = given (ranged (c .before .before)) in high-some (v .dims) (v .indexes) (above c)
+sub-t11 : tie.Need-sub-t11
+sub-t11 c = let v = given (ranged (c .before .before)) in high-some (v .dims) (v .indexes) (above c)
 
 returns-5 : tie.Need-returns-5
 returns-5 c =
@@ -79,8 +79,8 @@ returns-5 c =
     let t = u .before in
     checked-answer (sym (refused-index (given t) (low t) (high t) (even u) (rising w) (above c)))
 
-count-zeros-requires : tie.Need-count-zeros-requires
-count-zeros-requires c κs = search needs
+some-zero-requires : tie.Need-some-zero-requires
+some-zero-requires c κs = search needs
 
 first-zero-requires : tie.Need-first-zero-requires
 first-zero-requires c κs = search needs
@@ -95,7 +95,7 @@ returns-6 c =
     (ap (Refused 5) (c .first-zero .ensures)
     ∙ sym
     (refused-zero (given t) (low t) (high t) (even u) (rising w) (below x)
-    (λ none. c .before .if6 .taken (c .before .before .count-zeros .ensures ∙ none))))
+    (sym (c .before .before .some-zero .ensures) ∙ c .before .if6 .taken)))
 
 returns-7 : tie.Need-returns-7
 returns-7 c =
@@ -103,7 +103,7 @@ returns-7 c =
     let w = x .before .before in
     let u = w .before .before in
     let t = u .before in
-    let none = sym (c .before .count-zeros .ensures) ∙ c .if6 .left in
+    let none = sym (c .before .some-zero .ensures) ∙ c .if6 .left in
     checked-answer (sym (passes (given t) (low t) (high t) (even u) (rising w) (below x) none))
 
 pub check-spec : {M : Type 1} → statement M
@@ -113,13 +113,13 @@ check-spec =
     returns
     returns-2
     returns-3
-    count-falls-requires
+    some-fall-requires
     first-fall-requires
     returns-4
     too-high-requires
-    sub-t10
+    sub-t11
     returns-5
-    count-zeros-requires
+    some-zero-requires
     first-zero-requires
     returns-6
     returns-7)
