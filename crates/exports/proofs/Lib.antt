@@ -1,0 +1,4 @@
+-- Laws of the exported calls.
+pub mod Headers
+pub mod Unknown
+pub mod Only
