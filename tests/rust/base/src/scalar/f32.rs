@@ -1,76 +1,97 @@
 //! Stands for f32.rs, which is not in the text. It is ours, and no evidence about that file.
 //!
-//! The steps on one or two floats are the plain ones. `mask` keeps the value or gives +0. The sums go by rising index,
-//! and each step is rounded once. So dot and L2 are compared only where every order gives the same number.
+//! The steps on one or two floats are the plain ones. `mask` keeps the value or gives +0, without a branch. The sums are
+//! plain merges by rising index, and each step is rounded once: as fast as plain Rust does it, since the bench times them
+//! as the Rust's. So dot and L2 are compared only where every order gives the same number.
 use super::ScalarLike;
 use std::cmp::Ordering;
 
-/// The indexes of two lists in rising order, each with the value that either side has there, or +0.
-fn walk(lidx: &[u32], lval: &[f32], ridx: &[u32], rval: &[f32], mut step: impl FnMut(f32, f32)) {
-    let (mut l, mut r) = (0, 0);
-    while l < lidx.len() && r < ridx.len() {
-        match lidx[l].cmp(&ridx[r]) {
-            Ordering::Equal => step(lval[l], rval[r]),
-            Ordering::Less => step(lval[l], 0.0),
-            Ordering::Greater => step(0.0, rval[r]),
-        }
-        let (left, right) = (lidx[l], ridx[r]);
-        l += (left <= right) as usize;
-        r += (right <= left) as usize;
-    }
-    lval[l..].iter().for_each(|&x| step(x, 0.0));
-    rval[r..].iter().for_each(|&y| step(0.0, y));
-}
-
 impl ScalarLike for f32 {
+    #[inline(always)]
     fn zero() -> Self {
         0.0
     }
+    #[inline(always)]
     fn infinity() -> Self {
         f32::INFINITY
     }
+    #[inline(always)]
     fn mask(self, m: bool) -> Self {
-        if m {
-            self
-        } else {
-            0.0
-        }
+        f32::from_bits(self.to_bits() & (m as u32).wrapping_neg())
     }
+    #[inline(always)]
     fn scalar_neg(this: Self) -> Self {
         -this
     }
+    #[inline(always)]
     fn scalar_add(lhs: Self, rhs: Self) -> Self {
         lhs + rhs
     }
+    #[inline(always)]
     fn scalar_sub(lhs: Self, rhs: Self) -> Self {
         lhs - rhs
     }
+    #[inline(always)]
     fn scalar_mul(lhs: Self, rhs: Self) -> Self {
         lhs * rhs
     }
+    #[inline(always)]
     fn scalar_is_sign_positive(self) -> bool {
         self.is_sign_positive()
     }
+    #[inline(always)]
     fn scalar_is_sign_negative(self) -> bool {
         self.is_sign_negative()
     }
+    #[inline(always)]
     fn from_f32(x: f32) -> Self {
         x
     }
+    #[inline(always)]
     fn to_f32(self) -> f32 {
         self
     }
     fn reduce_or_of_is_zero(this: &[Self]) -> bool {
-        this.iter().any(|&x| x == 0.0)
+        this.iter().fold(false, |found, &x| found | (x == 0.0))
     }
     fn reduce_sum_of_sparse_xy(lidx: &[u32], lval: &[Self], ridx: &[u32], rval: &[Self]) -> f32 {
-        let mut sum = 0.0;
-        walk(lidx, lval, ridx, rval, |x, y| sum += x * y);
+        assert!(lidx.len() == lval.len() && ridx.len() == rval.len());
+        let (mut l, mut r, mut sum) = (0, 0, 0.0);
+        while l < lidx.len() && r < ridx.len() {
+            match lidx[l].cmp(&ridx[r]) {
+                Ordering::Equal => {
+                    sum += lval[l] * rval[r];
+                    l += 1;
+                    r += 1;
+                }
+                Ordering::Less => l += 1,
+                Ordering::Greater => r += 1,
+            }
+        }
         sum
     }
     fn reduce_sum_of_sparse_d2(lidx: &[u32], lval: &[Self], ridx: &[u32], rval: &[Self]) -> f32 {
-        let mut sum = 0.0;
-        walk(lidx, lval, ridx, rval, |x, y| sum += (x - y) * (x - y));
+        assert!(lidx.len() == lval.len() && ridx.len() == rval.len());
+        let (mut l, mut r, mut sum) = (0, 0, 0.0);
+        while l < lidx.len() && r < ridx.len() {
+            match lidx[l].cmp(&ridx[r]) {
+                Ordering::Equal => {
+                    let d = lval[l] - rval[r];
+                    sum += d * d;
+                    l += 1;
+                    r += 1;
+                }
+                Ordering::Less => {
+                    sum += lval[l] * lval[l];
+                    l += 1;
+                }
+                Ordering::Greater => {
+                    sum += rval[r] * rval[r];
+                    r += 1;
+                }
+            }
+        }
+        lval[l..].iter().chain(&rval[r..]).for_each(|&x| sum += x * x);
         sum
     }
 

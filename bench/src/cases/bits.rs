@@ -1,0 +1,125 @@
+//! Bit vectors of 65,535 bits: AND, OR, XOR, counts, slice.
+use super::Bench;
+use crate::data::{Maker, BITS};
+use crate::peers::{self, Roaring};
+use crate::timing::{Side, OURS, OWNED, RUST};
+use base::scalar::bit;
+use base::vector::{BVectBorrowed, BVectOwned, VectorBorrowed, VectorOwned};
+use std::hint::black_box;
+
+type Ours<'a> = oxlanyard::BVectBorrowed<'a>;
+type Rust<'a> = BVectBorrowed<'a>;
+
+fn ours(words: &[u64]) -> Ours<'_> {
+    Ours::new_checked(BITS, words).expect("a valid vector")
+}
+
+/// The words of two vectors.
+pub type Two = [Vec<u64>; 2];
+
+/// The three ways of a call that makes a vector: ours to a lent list, ours with a list of its own, and the Rust's.
+struct Words<'a> {
+    lent: for<'o> fn(Ours<'a>, Ours<'a>, &'o mut [u64]) -> Ours<'o>,
+    owned: fn(Ours<'a>, Ours<'a>) -> oxlanyard::BVectOwned,
+    rust: fn(Rust<'a>, Rust<'a>) -> BVectOwned,
+}
+
+fn words<'a>(two: &'a Two, words: Words<'a>, peer: Roaring) -> Vec<Side<'a>> {
+    let (a, b) = (ours(&two[0]), ours(&two[1]));
+    let (x, y) = (Rust::new(BITS, &two[0]), Rust::new(BITS, &two[1]));
+    let mut out = vec![0; two[0].len()];
+    let its = (words.rust)(x, y);
+    assert!((words.lent)(a, b, &mut out).data() == its.as_borrowed().data(), "the words differ");
+    assert!((words.owned)(a, b).data() == its.as_borrowed().data(), "the words differ");
+    let mut sides = vec![
+        Side::new(OURS, move || {
+            black_box((words.lent)(black_box(a), black_box(b), &mut out));
+        }),
+        Side::new(RUST, move || {
+            black_box((words.rust)(black_box(x), black_box(y)));
+        }),
+        Side::new(OWNED, move || {
+            black_box((words.owned)(black_box(a), black_box(b)));
+        }),
+    ];
+    sides.extend(peers::roaring(two, peer));
+    sides
+}
+
+fn count<'a>(
+    two: &'a Two,
+    count: fn(Ours<'a>, Ours<'a>) -> f32,
+    rust_count: fn(Rust<'a>, Rust<'a>) -> f32,
+    peer: Roaring,
+) -> Vec<Side<'a>> {
+    let (a, b) = (ours(&two[0]), ours(&two[1]));
+    let (x, y) = (Rust::new(BITS, &two[0]), Rust::new(BITS, &two[1]));
+    assert_eq!(count(a, b).to_bits(), rust_count(x, y).to_bits());
+    let mut sides = vec![
+        Side::new(OURS, move || {
+            black_box(count(black_box(a), black_box(b)));
+        }),
+        Side::new(RUST, move || {
+            black_box(rust_count(black_box(x), black_box(y)));
+        }),
+    ];
+    sides.extend(peers::roaring(two, peer));
+    sides
+}
+
+fn slice(words: &[u64]) -> Vec<Side<'_>> {
+    let bounds = || 3..65_003;
+    let (a, x) = (ours(words), Rust::new(BITS, words));
+    let mut out = vec![0; words.len()];
+    let its = x.subvector(bounds()).expect("good bounds");
+    let lent = a.subvector_into(bounds(), &mut out).expect("good bounds");
+    assert!(lent.data() == its.as_borrowed().data(), "the words differ");
+    vec![
+        Side::new(OURS, move || {
+            black_box(black_box(a).subvector_into(bounds(), &mut out).expect("good bounds"));
+        }),
+        Side::new(RUST, move || {
+            black_box(black_box(x).subvector(bounds()).expect("good bounds"));
+        }),
+        Side::new(OWNED, move || {
+            black_box(black_box(a).subvector(bounds()).expect("good bounds"));
+        }),
+    ]
+}
+
+macro_rules! words {
+    ($lent:ident, $owned:ident, $rust:expr) => {
+        Words {
+            lent: |a, b, out| a.$lent(b, out).expect("valid vectors"),
+            owned: |a, b| a.$owned(b).expect("valid vectors"),
+            rust: $rust,
+        }
+    };
+}
+
+/// The Rust's operator_and reads its left side twice. This is what it would be, by its own vector_and.
+fn rust_and(a: Rust, b: Rust) -> BVectOwned {
+    assert_eq!(a.dims(), b.dims());
+    BVectOwned::new(a.dims(), bit::vector_and(a.data(), b.data()))
+}
+
+macro_rules! count {
+    ($two:expr, $name:ident, $peer:expr) => {
+        count($two, |a, b| a.$name(b).expect("valid vectors"), |a, b| a.$name(b).to_f32(), $peer)
+    };
+}
+
+pub fn run(bench: &mut Bench) {
+    let mut maker = Maker::new(8);
+    let two = [maker.bits(), maker.bits()];
+    let and = words!(operator_and_into, operator_and, |a, b| rust_and(a, b));
+    let or = words!(operator_or_into, operator_or, |a, b| a.operator_or(b));
+    let xor = words!(operator_xor_into, operator_xor, |a, b| a.operator_xor(b));
+    bench.case("AND, 65,535 bits", Some(0.9), || words(&two, and, Roaring::And));
+    bench.case("OR, 65,535 bits", Some(0.9), || words(&two, or, Roaring::Or));
+    bench.case("XOR, 65,535 bits", Some(0.9), || words(&two, xor, Roaring::Xor));
+    bench.case("ones of AND, 65,535 bits", Some(1.1), || count!(&two, operator_dot, Roaring::OnesOfAnd));
+    bench.case("Hamming, 65,535 bits", Some(1.1), || count!(&two, operator_hamming, Roaring::Hamming));
+    bench.case("Jaccard, 65,535 bits", Some(1.1), || count!(&two, operator_jaccard, Roaring::Jaccard));
+    bench.case("bit slice, 65,000 bits from bit 3", None, || slice(&two[0]));
+}

@@ -1,0 +1,88 @@
+//! The cases: every side gets the same data, and the answers are compared before anything is timed.
+mod allocating;
+mod bits;
+pub mod growth;
+mod sparse;
+mod states;
+
+pub use bits::Two;
+#[cfg(eigen)]
+pub use sparse::{in_turn, same};
+
+use crate::allocations;
+use crate::results::{Allocations, Measured, Results};
+use crate::timing::{Rounds, Side, OURS, OWNED, RUST};
+
+pub struct Bench {
+    /// Only cases whose name has this in it.
+    only: String,
+    results: Results,
+    /// Calls of ours that were watched, and the allocations that they made.
+    watched: (u64, u64),
+}
+
+/// A whole number with a comma before each three digits.
+pub fn grouped(n: u64) -> String {
+    let digits = n.to_string();
+    let groups = digits.as_bytes().rchunks(3).rev();
+    groups.map(|group| String::from_utf8_lossy(group)).collect::<Vec<_>>().join(",")
+}
+
+impl Bench {
+    fn wants(&self, name: &str) -> bool {
+        name.contains(&self.only)
+    }
+
+    /// A case: ours, the Rust, and whoever else there is.
+    fn case<'a>(&mut self, name: &str, target: Option<f64>, sides: impl FnOnce() -> Vec<Side<'a>>) {
+        if !self.wants(name) {
+            return;
+        }
+        let mut sides = sides();
+        self.watched.0 += 1;
+        self.watched.1 += allocations::of(|| sides[0].once());
+        self.timed(name, target, &mut sides);
+    }
+
+    /// A case in which ours grows, and so allocates.
+    fn case_that_grows<'a>(&mut self, name: &str, target: Option<f64>, sides: impl FnOnce() -> Vec<Side<'a>>) {
+        if self.wants(name) {
+            self.timed(name, target, &mut sides());
+        }
+    }
+
+    fn timed(&mut self, name: &str, target: Option<f64>, sides: &mut [Side]) {
+        let rounds = Rounds::of(sides);
+        assert!(sides[0].name == OURS && sides[1].name == RUST);
+        for k in 1..sides.len() {
+            // Peers are others of ours. Where ours owns its answer, the other is the Rust.
+            let (side, other) = if sides[k].name == OWNED { (k, 1) } else { (0, k) };
+            let measured = Measured {
+                case: name.into(),
+                target: target.filter(|_| k == 1),
+                side: sides[side].name.into(),
+                other: sides[other].name.into(),
+                ns: rounds.median(side),
+                other_ns: rounds.median(other),
+                ratio: rounds.ratio(side, other),
+            };
+            eprintln!("{name}: {} by {}: {:.3}", measured.side, measured.other, measured.ratio.median);
+            self.results.measured.push(measured);
+        }
+    }
+}
+
+/// Runs the cases whose names have a text in them; of all of them, if it is empty.
+pub fn run(only: &str) -> Results {
+    allocations::warm();
+    let mut bench = Bench { only: only.into(), results: Results::default(), watched: (0, 0) };
+    sparse::run(&mut bench);
+    bits::run(&mut bench);
+    states::run(&mut bench);
+    growth::run(&mut bench);
+    let (calls, made) = bench.watched;
+    let calls = format!("{calls} calls, one in each case but that in which the state grows");
+    bench.results.allocations.push(Allocations { calls, made });
+    bench.results.allocations.push(allocating::every_call());
+    bench.results
+}

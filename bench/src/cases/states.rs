@@ -1,0 +1,117 @@
+//! States of an aggregate: a row, a combine.
+use super::sparse::{in_turn, ours, rust, same, Ours};
+use super::Bench;
+use crate::data::{Maker, Pair, Sparse};
+use crate::timing::{Side, OURS, RUST};
+use oxlanyard::Aggregate;
+use pgrx::datum::{reset, Internal};
+use std::hint::black_box;
+use vectors::datatype::aggregate_svecf32::{probe, SVecf32AggregateAvgSumStype as Theirs};
+
+const VALID: &str = "valid vectors";
+
+/// A state of each side with one row.
+pub fn ours_with(first: &Sparse) -> Aggregate {
+    let mut state = Aggregate::new();
+    state.row(ours(first)).expect(VALID);
+    state
+}
+
+pub fn rust_with(first: &Sparse) -> Internal {
+    probe::row(Internal::NULL, rust(first))
+}
+
+fn same_states(ours: &Aggregate, rust: Internal) {
+    let (sum, its) = (ours.sum().expect("a state"), probe::sum(rust).expect("a state"));
+    same((sum.indexes(), sum.values()), (its.indexes(), its.values()));
+    let its = unsafe { rust.get_mut::<Theirs>() }.expect("a state");
+    assert_eq!((ours.capacity(), ours.count() as u64), (its.capacity() as usize, its.count()));
+}
+
+/// Rows of 100 whole numbers, each followed by its negation: after two calls the state is as it was.
+pub fn rows(maker: &mut Maker, first: &Sparse) -> Vec<Sparse> {
+    let rows: Vec<Sparse> = (0..32).map(|_| maker.row(first, 100)).collect();
+    rows.into_iter().flat_map(|row| [row.negated(), row]).collect()
+}
+
+/// Rows in turn. Values are added to, put in and taken out. All of it is timed, and nothing else.
+pub fn row<'a>(first: &Sparse, rows: &'a [Sparse]) -> Vec<Side<'a>> {
+    let (mut state, mut its) = (ours_with(first), rust_with(first));
+    for row in rows {
+        state.row(ours(row)).expect(VALID);
+        its = probe::row(its, rust(row));
+        same_states(&state, its);
+    }
+    let ours_rows: Vec<Ours> = rows.iter().map(ours).collect();
+    let (mut turn, mut its_turn) = (in_turn(ours_rows), in_turn(rows.iter().map(rust).collect()));
+    vec![
+        Side::new(OURS, move || {
+            black_box(state.row(black_box(turn())).expect(VALID));
+        }),
+        Side::new(RUST, move || its = probe::row(its, black_box(its_turn()))),
+    ]
+}
+
+/// A second state goes into the first, which has room. Its negation puts the first back, which is not timed. Doing both
+/// once before makes the first grow.
+fn combine(pair: &Pair) -> Vec<Side<'static>> {
+    let negated = pair.b.negated();
+    let (mut state, second, back) = (ours_with(&pair.a), ours_with(&pair.b), ours_with(&negated));
+    let (mut its, its_second, its_back) = (rust_with(&pair.a), rust_with(&pair.b), rust_with(&negated));
+    for (other, its_other) in [(&second, its_second), (&back, its_back)] {
+        state.combine(other).expect(VALID);
+        its = probe::combine(its, its_other);
+        same_states(&state, its);
+    }
+    let taken = move |state: &mut Aggregate, other: &Aggregate| {
+        black_box(state.combine(black_box(other)).expect(VALID));
+    };
+    let its_taken = move |state: &mut Internal, other: Internal| *state = probe::combine(*state, black_box(other));
+    vec![
+        Side::undone(OURS, state, move |s| taken(s, &second), move |s| taken(s, &back)),
+        Side::undone(RUST, its, move |s| its_taken(s, its_second), move |s| its_taken(s, its_back)),
+    ]
+}
+
+/// A state that `reset` does not free: another thread has made it.
+fn lasting(first: &Sparse) -> Internal {
+    struct Sent(Internal);
+    // SAFETY: no one else has the state.
+    unsafe impl Send for Sent {}
+    std::thread::scope(|s| s.spawn(|| Sent(rust_with(first))).join().expect("a state")).0
+}
+
+/// A second state goes into the first, which must grow. Both sides allocate the grown state; giving it back, and on our
+/// side copying the first anew, is not timed.
+fn combine_and_grow(pair: &Pair) -> Vec<Side<'static>> {
+    let (state, second) = (ours_with(&pair.a), ours_with(&pair.b));
+    let (its, its_second) = (lasting(&pair.a), lasting(&pair.b));
+    let mut first = state.clone();
+    first.combine(&second).expect(VALID);
+    same_states(&first, probe::combine(its, its_second));
+    let grown = move |first: &mut Aggregate| {
+        black_box(first.combine(black_box(&second)).expect(VALID));
+    };
+    vec![
+        Side::undone(OURS, state.clone(), grown, move |first| *first = state.clone()),
+        Side::undone(
+            RUST,
+            (),
+            move |()| {
+                black_box(probe::combine(black_box(its), black_box(its_second)));
+            },
+            // SAFETY: what was made since is used by no one.
+            |()| unsafe { reset() },
+        ),
+    ]
+}
+
+pub fn run(bench: &mut Bench) {
+    let mut maker = Maker::new(9);
+    let first = maker.whole_vector(100_000);
+    let rows = rows(&mut maker, &first);
+    bench.case("row of 100 into a state of 100,000", Some(0.6), || row(&first, &rows));
+    let pair = maker.whole_pair(100_000, 10);
+    bench.case("combine, two states of 100,000", Some(0.6), || combine(&pair));
+    bench.case_that_grows("combine, two states of 100,000, and grow", Some(0.6), || combine_and_grow(&pair));
+}
