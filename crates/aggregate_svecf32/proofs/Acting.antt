@@ -2,31 +2,59 @@
 -- outcomes that a call may have are equal, but in the open places of the lists. Assumes nothing.
 use Prim.Native.Nat.{ℕ, _+_, _≤_}
 use native.Mathlib.Omega.{arith}
+use mathlib.Core.Bool.{Bool, true, false, cond}
 use mathlib.Core.List.{List, [], _∷_, _++_}
 use mathlib.Core.Path.{_≡_, refl, sym, ap, ap₂, _∙_}
-use lib.ListN.{length, take, drop}
+use lib.Dec.{eqb}
+use lib.ListN.{length, take, drop, getD}
 use lib.Ieee.{Float}
-use Rattle.refusal.specs.Answers.{tells, Answers}
+use borrow.Author.Tests.{ne-eqb}
+use Rattle.refusal.specs.Answers.{Says, Answers}
 use Rattle.refusal.specs.declared.Checked.{Checked}
 use Rattle.refusal.specs.declared.Checked.the-variants.{Valid, Refused}
 use Rattle.refusal.proofs.Told.{answered}
 use Rattle.refusal.proofs.Only.{one-answer}
+use Rattle.refusal.proofs.Decides.{decided}
 use Rattle.sparse.specs.Vectors.{Vector, size}
 use Rattle.regions.specs.Loops.{Fitting, Copied}
 use Rattle.regions.specs.Regions.{Pair, pair, part, Stands}
 use Rattle.regions.proofs.Stands.{lent, part-length, stands-copied, stands-lent, stands-one, stands-same}
-use Rattle.aggregate_svecf32.specs.Calls.{Deed, toldSays, toldOf, Left, Acts}
+use Rattle.aggregate_svecf32.specs.States.{numbersOf, headerFrom}
+use Rattle.aggregate_svecf32.specs.Calls.{Deed, toldSays, toldTells, toldOf, Left, Acts}
 use Rattle.aggregate_svecf32.specs.declared.Header.{Header}
 use Rattle.aggregate_svecf32.specs.declared.Told.{Told}
 use Rattle.aggregate_svecf32.specs.declared.Told.the-variants.{Done, Refused as Kept}
 
-told-fair : (h new : Header) (turns : ℕ) (due : Checked) → toldSays (toldOf h new turns due) ≡ tells due (turns ∷ [])
+told-fair : (h new : Header) (turns : ℕ) (due : Checked) → toldSays (toldOf h new turns due) ≡ toldTells h new turns due
 told-fair h new turns Valid = refl
 told-fair h new turns (Refused n c) = refl
 
 told-answer : (h new : Header) (turns : ℕ) {due : Checked} {r : Told} → r ≡ toldOf h new turns due
-    → Answers toldSays (turns ∷ []) (toldOf h new turns) due r
-told-answer h new turns e = answered toldSays (turns ∷ []) (toldOf h new turns) (told-fair h new turns) e
+    → Answers toldSays (toldTells h new turns) (toldOf h new turns) due r
+told-answer h new turns e = answered toldSays (toldTells h new turns) (toldOf h new turns) (told-fair h new turns) e
+
+-- ---- what an answer says decides it, where no refusal has the number 0, which is done
+
+pub header-back : (h : Header) → headerFrom (numbersOf h) ≡ h
+header-back h = go (h .begun) refl
+  where
+    go : (b : Bool) → h .begun ≡ b → headerFrom (numbersOf h) ≡ h
+    go true e = rw e
+    go false e = rw e
+
+toldBack : Says → Told
+toldBack s =
+    let h : Header = headerFrom (drop 1 (s .values)) in
+    cond (eqb (s .number) 0) (Done h (getD (s .values) 0 0)) (Kept h (s .number) (s .place))
+
+told-back : (r : Told) → ((h : Header) (n p : ℕ) → r ≡ Kept h n p → n ≡ 0 → ⊥) → toldBack (toldSays r) ≡ r
+unfolding toldBack
+told-back (Done h turns) k = ap (λ (g : Header). Done g turns) (header-back h)
+told-back (Kept h n p) k = rw (ne-eqb n 0 (k h n p refl)) (ap (λ (g : Header). Kept g n p) (header-back h))
+
+pub told-decided : (r s : Told) → ((h : Header) (n p : ℕ) → r ≡ Kept h n p → n ≡ 0 → ⊥) → ((h : Header) (n p : ℕ) → s ≡ Kept h n p → n ≡ 0 → ⊥)
+    → toldSays r ≡ toldSays s → r ≡ s
+told-decided r s k l = decided toldSays toldBack (told-back r k) (told-back s l)
 
 -- ---- what a call does
 

@@ -22,7 +22,7 @@ use Rattle.merges.specs.declared.Op.the-variants.{Add}
 use Rattle.regions.specs.Capacity.{capacityFor}
 use Rattle.regions.specs.Regions.{Pair, inside, Stands}
 use Rattle.in_place.specs.Turns.{rowTurns}
-use Rattle.aggregate_svecf32.specs.States.{header, held, stateOf}
+use Rattle.aggregate_svecf32.specs.States.{header, numbersOf, held, stateOf}
 use Rattle.aggregate_svecf32.specs.declared.Header.{Header}
 use Rattle.aggregate_svecf32.specs.declared.Told.{Told}
 use Rattle.aggregate_svecf32.specs.declared.Told.the-variants.{Done, Refused as Kept}
@@ -39,12 +39,16 @@ pub record Deed : Type 0 where
 abbrev pub deed : Header → ℕ → ℕ → Vector → Deed
 deed h turns room v = record { header = h; turns = turns; room = room; vector = v }
 
--- the number of an answer, its place, and the turns
+-- the number of an answer, its place, the turns, and the header that it hands back
 abbrev pub toldSays : Told → Says
-toldSays (Done h turns) = says 0 0 (turns ∷ [])
-toldSays (Kept h n p) = says n p (0 ∷ [])
+toldSays (Done h turns) = says 0 0 (turns ∷ numbersOf h)
+toldSays (Kept h n p) = says n p (0 ∷ numbersOf h)
 
--- "A refused aggregate call hands back the header it was given, unchanged (in a combine the first's)."
+-- "A refused aggregate call hands back the header it was given, unchanged (in a combine the first's)." "Other numbers beside a refusal are 0"
+abbrev pub toldTells : Header → Header → ℕ → Checked → Says
+toldTells given new turns Valid = says 0 0 (turns ∷ numbersOf new)
+toldTells given new turns (Refused n p) = says n p (0 ∷ numbersOf given)
+
 abbrev pub toldOf : Header → Header → ℕ → Checked → Told
 toldOf given new turns Valid = Done new turns
 toldOf given new turns (Refused n p) = Kept given n p
@@ -56,7 +60,7 @@ Left (Refused n c) start room xs old new = new ≡ old
 
 -- a call on the state h answers r and leaves the lists q of p, where its tests find `due`
 pub record Acts (h : Header) (due : Checked) (d : Deed) (p : Pair) (r : Told) (q : Pair) : Type 0 where
-  pub answer : Answers toldSays (d .turns ∷ []) (toldOf h (d .header) (d .turns)) due r
+  pub answer : Answers toldSays (toldTells h (d .header) (d .turns)) (toldOf h (d .header) (d .turns)) due r
   pub indexes : Left due (d .header .start) (d .room) (d .vector .indexes) (p .indexes) (q .indexes)
   pub values : Left due (d .header .start) (d .room) (d .vector .values) (p .values) (q .values)
 

@@ -1,11 +1,14 @@
 -- Document 01, "Aggregate states": what a header says of its region, and when it is consistent.
 use Prim.Native.Nat.{ℕ}
 use mathlib.Core.Bool.{Bool, true, false, not, cond, _&&_}
+use mathlib.Core.List.{List, [], _∷_}
 use lib.Dec.{leb, ltb, eqb}
+use lib.ListN.{getD}
 use Rattle.refusal.specs.Numbers.{ROOM, STATE}
 use Rattle.refusal.specs.Answers.{refuse}
 use Rattle.refusal.specs.declared.Checked.{Checked}
 use Rattle.refusal.specs.declared.Checked.the-variants.{Valid, Refused}
+use Rattle.places.specs.Below.{one}
 use Rattle.sparse.specs.Vectors.{Vector, vector}
 use Rattle.sparse.specs.Calls.{badDims, checkedOf}
 use Rattle.regions.specs.Capacity.{isCapacity}
@@ -16,6 +19,16 @@ use Rattle.aggregate_svecf32.specs.declared.Header.{Header}
 abbrev pub header : ℕ → ℕ → Bool → ℕ → ℕ → ℕ → ℕ → Header
 header start length begun d len capacity count =
     record { start = start; length = length; begun = begun; dims = d; len = len; capacity = capacity; count = count }
+
+-- a header as seven numbers, in document 01's order: "start, region length, whether it has begun, dims, len, capacity, count"
+abbrev pub numbersOf : Header → List ℕ
+numbersOf h = h .start ∷ h .length ∷ one (h .begun) ∷ h .dims ∷ h .len ∷ h .capacity ∷ h .count ∷ []
+
+-- and the header that seven numbers are
+abbrev pub headerFrom : List ℕ → Header
+headerFrom ns =
+    let at : ℕ → ℕ = λ i. getD ns i 0 in
+    header (at 0) (at 1) (eqb (at 2) 1) (at 3) (at 4) (at 5) (at 6)
 
 -- a state without rows
 abbrev pub fresh : ℕ → ℕ → Header

@@ -13,19 +13,19 @@ use Rattle.bit.specs.declared.Count.the-variants.{Ones, Refused as NoCou
 use Rattle.bit.specs.declared.Counts.{Counts}
 use Rattle.bit.specs.declared.Counts.the-variants.{Ones as Both, Refused as NoCounts}
 
-count-fair : (n : ℕ) (due : Checked) → countSays (countOf n due) ≡ tells due (n ∷ [])
+count-fair : (n : ℕ) (due : Checked) → countSays (countOf n due) ≡ tells (n ∷ []) [] due
 count-fair n Valid = refl
 count-fair n (Refused m p) = refl
 
 pub count-answer : (n : ℕ) {due : Checked} {r : Count} → r ≡ countOf n due → Tallies n due r
-count-answer n e = answered countSays (n ∷ []) (countOf n) (count-fair n) e
+count-answer n e = answered countSays (tells (n ∷ []) []) (countOf n) (count-fair n) e
 
-counts-fair : (m n : ℕ) (due : Checked) → countsSays (countsOf m n due) ≡ tells due (m ∷ n ∷ [])
+counts-fair : (m n : ℕ) (due : Checked) → countsSays (countsOf m n due) ≡ tells (m ∷ n ∷ []) [] due
 counts-fair m n Valid = refl
 counts-fair m n (Refused k p) = refl
 
 pub counts-answer : (m n : ℕ) {due : Checked} {r : Counts} → r ≡ countsOf m n due → TalliesBoth m n due r
-counts-answer m n e = answered countsSays (m ∷ n ∷ []) (countsOf m n) (counts-fair m n) e
+counts-answer m n e = answered countsSays (tells (m ∷ n ∷ []) []) (countsOf m n) (counts-fair m n) e
 
 -- ---- and back: what an answer tells of the tests
 

@@ -7,7 +7,7 @@ use lib.ListN.{length}
 use Rattle.places.specs.Below.{anyBelow, countBelow}
 use Rattle.refusal.specs.Numbers.{DIMS, LENGTH, PADDING, DIFFER, ROOM}
 use Rattle.refusal.specs.Dims.{outside}
-use Rattle.refusal.specs.Answers.{refuse, next, Says, says, Answers, Writes}
+use Rattle.refusal.specs.Answers.{refuse, next, Says, says, tells, Answers, Writes}
 use Rattle.refusal.specs.declared.Checked.{Checked}
 use Rattle.refusal.specs.declared.Checked.the-variants.{Valid, Refused}
 use Rattle.refusal.specs.declared.Written.{Written}
@@ -69,10 +69,10 @@ countsOf m n (Refused k p) = NoCounts k p
 
 -- a count of n ones, and two counts
 abbrev pub Tallies : ℕ → Checked → Count → Type 0
-Tallies n = Answers countSays (n ∷ []) (countOf n)
+Tallies n = Answers countSays (tells (n ∷ []) []) (countOf n)
 
 abbrev pub TalliesBoth : ℕ → ℕ → Checked → Counts → Type 0
-TalliesBoth m n = Answers countsSays (m ∷ n ∷ []) (countsOf m n)
+TalliesBoth m n = Answers countsSays (tells (m ∷ n ∷ []) []) (countsOf m n)
 
 -- ---- what the calls promise
 

@@ -13,8 +13,8 @@ use lib.ListN.{length, getD}
 use borrow.Author.Tests.{eq-eqb, ne-eqb, eqb-true}
 use Rattle.places.proofs.First.{found, none, before, most, hit}
 use Rattle.places.proofs.Below.{le-or-lt, any-none, any-true}
-use Rattle.refusal.specs.Answers.{says, orderSays, orderOf}
-use Rattle.refusal.proofs.Told.{order-answer}
+use Rattle.refusal.specs.Answers.{orderOf}
+use Rattle.refusal.proofs.Told.{IsOrder, order-answer}
 use Rattle.refusal.specs.declared.Ordering.{Ordering}
 use Rattle.refusal.specs.declared.Ordering.the-variants.{Less, Equal, Greater, Unordered}
 use Rattle.bit.specs.Bits.{bitOf, bitAt, both}
@@ -67,11 +67,11 @@ module _ (f g : ℕ → Bool) where
           order-at m (lowest f g d) (omega arith) e earlier ∙ sym (order-at d (lowest f g d) l e earlier)
 
 -- no order is a refusal
-compare-fair : (same : Bool) (f g : ℕ → Bool) (n : ℕ) → orderSays (cond same (orderBelow f g n) Unordered) ≡ says 0 0 []
+compare-fair : (same : Bool) (f g : ℕ → Bool) (n : ℕ) → IsOrder (cond same (orderBelow f g n) Unordered)
 compare-fair false f g n = refl
 compare-fair true f g n = go (eqb (lowest f g n) n) (f (lowest f g n))
   where
-    go : (none one : Bool) → orderSays (cond none Equal (cond one Greater Less)) ≡ says 0 0 []
+    go : (none one : Bool) → IsOrder (cond none Equal (cond one Greater Less))
     go true one = refl
     go false true = refl
     go false false = refl

@@ -1,16 +1,18 @@
 -- What a distance that was answered tells of its tests, and what three sums answer. Assumes nothing.
 use Prim.Native.Nat.{ℕ}
 use native.Mathlib.Omega.{arith}
-use mathlib.Core.List.{[]}
+use mathlib.Core.List.{List, [], _∷_}
 use mathlib.Core.Path.{_≡_, refl}
 use lib.Ieee.{Float}
-use Rattle.refusal.specs.Answers.{tells, Answers, distanceOf}
+use Rattle.refusal.specs.Answers.{Says, tells, Answers, distanceOf}
 use Rattle.refusal.specs.declared.Checked.{Checked}
 use Rattle.refusal.specs.declared.Checked.the-variants.{Valid, Refused}
 use Rattle.refusal.specs.declared.Distance.the-variants.{Value, Refused as NoDistance}
 use Rattle.refusal.proofs.Told.{answered}
-use Rattle.folds.specs.Calls.{summedSays, summedOf}
+use Rattle.refusal.proofs.Decides.{decided}
+use Rattle.folds.specs.Calls.{floatsOf, summedSays, summedOf}
 use Rattle.folds.specs.declared.Summed.{Summed}
+use Rattle.folds.specs.declared.Summed.the-variants.{Sums, Refused as NotSummed}
 use Rattle.folds.specs.declared.Three.{Three}
 
 pub value-told : (x y : Float) (due : Checked) → distanceOf x due ≡ Value y → (due ≡ Valid) × (y ≡ x)
@@ -21,9 +23,26 @@ pub refusal-told : (x : Float) (due : Checked) (n p : ℕ) → distanceOf x due 
 refusal-told x Valid n p e = let z : _≡_ {A = ℕ} 0 1 = cc in absurd (omega arith)
 refusal-told x (Refused m q) n p e = let a : m ≡ n = cc in let b : q ≡ p = cc in rw (a, b)
 
-summed-fair : (t : Three) (due : Checked) → summedSays (summedOf t due) ≡ tells due []
+summed-fair : (t : Three) (due : Checked) → summedSays (summedOf t due) ≡ tells [] (floatsOf t) due
 summed-fair t Valid = refl
 summed-fair t (Refused n p) = refl
 
-pub summed-answer : (t : Three) {due : Checked} {r : Summed} → r ≡ summedOf t due → Answers summedSays [] (summedOf t) due r
-summed-answer t e = answered summedSays [] (summedOf t) (summed-fair t) e
+pub summed-answer : (t : Three) {due : Checked} {r : Summed} → r ≡ summedOf t due → Answers summedSays (tells [] (floatsOf t)) (summedOf t) due r
+summed-answer t e = answered summedSays (tells [] (floatsOf t)) (summedOf t) (summed-fair t) e
+
+-- ---- what three sums say decides them, as for a distance
+
+summedBack : Says → Summed
+summedBack s = go (s .floats)
+  where
+    go : List Float → Summed
+    go (xy ∷ x2 ∷ y2 ∷ fs) = Sums (record { xy = xy; x2 = x2; y2 = y2 })
+    go fs = NotSummed (s .number) (s .place)
+
+summed-back : (r : Summed) → summedBack (summedSays r) ≡ r
+unfolding summedBack
+summed-back (Sums t) = refl
+summed-back (NotSummed n p) = refl
+
+pub summed-decided : (r s : Summed) → summedSays r ≡ summedSays s → r ≡ s
+summed-decided r s = decided summedSays summedBack (summed-back r) (summed-back s)

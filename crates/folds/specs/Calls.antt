@@ -1,6 +1,7 @@
 -- What dot, L2 and the three sums promise: the tests in their order, and the answer.
-use mathlib.Core.List.{[]}
-use Rattle.refusal.specs.Answers.{Says, says, Answers, Measures}
+use mathlib.Core.List.{List, [], _∷_}
+use lib.Ieee.{Float}
+use Rattle.refusal.specs.Answers.{Says, gives, says, tells, Answers, Measures}
 use Rattle.refusal.specs.declared.Checked.{Checked}
 use Rattle.refusal.specs.declared.Checked.the-variants.{Valid, Refused}
 use Rattle.refusal.specs.declared.Distance.{Distance}
@@ -13,9 +14,13 @@ use Rattle.folds.specs.declared.Three.{Three}
 use Rattle.folds.specs.declared.Summed.{Summed}
 use Rattle.folds.specs.declared.Summed.the-variants.{Sums, Refused as NotSummed}
 
+-- the products, and the squares of either side
+abbrev pub floatsOf : Three → List Float
+floatsOf t = t .xy ∷ t .x2 ∷ t .y2 ∷ []
+
 -- three floats or a refusal, never both
 abbrev pub summedSays : Summed → Says
-summedSays (Sums t) = says 0 0 []
+summedSays (Sums t) = gives 0 0 [] (floatsOf t)
 summedSays (NotSummed n p) = says n p []
 
 abbrev pub summedOf : Three → Checked → Summed
@@ -33,4 +38,4 @@ abbrev pub L2s : Vector → Vector → Distance → Type 0
 L2s = Distances Difference
 
 abbrev pub SumsThree : Vector → Vector → Summed → Type 0
-SumsThree a b = Answers summedSays [] (summedOf (threeOf a b)) (pairOf a b)
+SumsThree a b = Answers summedSays (tells [] (floatsOf (threeOf a b))) (summedOf (threeOf a b)) (pairOf a b)

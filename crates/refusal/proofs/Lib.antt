@@ -4,3 +4,4 @@ pub mod Chains
 pub mod Dims
 pub mod Told
 pub mod Only
+pub mod Decides

@@ -6,8 +6,8 @@ use Rattle.refusal.specs.Answers.{Says, Answers, Writes}
 use Rattle.refusal.specs.declared.Checked.{Checked}
 use Rattle.refusal.specs.declared.Written.{Written}
 
-pub one-answer : {A : Type 0} {saysOf : A → Says} {values : List ℕ} {give : Checked → A} {due : Checked} {r s : A}
-    → Answers saysOf values give due r → Answers saysOf values give due s → r ≡ s
+pub one-answer : {A : Type 0} {saysOf : A → Says} {said : Checked → Says} {give : Checked → A} {due : Checked} {r s : A}
+    → Answers saysOf said give due r → Answers saysOf said give due s → r ≡ s
 one-answer p q = p .answer ∙ sym (q .answer)
 
 pub one-output : {due : Checked} {d : ℕ} {new old : List ℕ} {r s : Written} {left rest : List ℕ}

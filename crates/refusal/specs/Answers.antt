@@ -32,19 +32,26 @@ next (Refused n p) later = Refused n p
 
 -- ---- an answer in the words of document 01
 
--- the number of an answer, the place it carries, and its other numbers; 0 is done, and carries 0
+-- the number of an answer, the place it carries, its other numbers, and its floats; 0 is done, and carries 0. This is all that an answer
+-- says: which one it is follows (proofs/Decides)
 pub record Says : Type 0 where
   pub number : ℕ
   pub place : ℕ
   pub values : List ℕ
+  pub floats : List Float
 
+abbrev pub gives : ℕ → ℕ → List ℕ → List Float → Says
+gives n p vs fs = record { number = n; place = p; values = vs; floats = fs }
+
+-- numbers alone
 abbrev pub says : ℕ → ℕ → List ℕ → Says
-says n p vs = record { number = n; place = p; values = vs }
+says n p vs = gives n p vs []
 
--- what is to be said where the tests find `due`: "Other numbers beside a refusal are 0"
-abbrev pub tells : Checked → List ℕ → Says
-tells Valid vs = says 0 0 vs
-tells (Refused n p) vs = says n p (map (λ v. 0) vs)
+-- what is to be said where the tests find `due`: these numbers and floats; "Other numbers beside a refusal are 0; a distance call answers a
+-- float or a refusal number, never both."
+abbrev pub tells : List ℕ → List Float → Checked → Says
+tells vs fs Valid = gives 0 0 vs fs
+tells vs fs (Refused n p) = says n p (map (λ v. 0) vs)
 
 -- ---- what each case of an answer says
 
@@ -54,7 +61,7 @@ checkedSays (Refused n p) = says n p []
 
 -- "a distance call answers a float or a refusal number, never both"
 abbrev pub distanceSays : Distance → Says
-distanceSays (Value x) = says 0 0 []
+distanceSays (Value x) = gives 0 0 [] (x ∷ [])
 distanceSays (NoDistance n p) = says n p []
 
 -- the dims and the number of entries written
@@ -73,13 +80,20 @@ askedSays Yes = says 0 0 (1 ∷ [])
 askedSays No = says 0 0 (0 ∷ [])
 askedSays (NotAsked n p) = says n p (0 ∷ [])
 
--- an order, or that there is none, is no number
+-- 1 for less, 2 for equal, 3 for greater, 4 for no order
+abbrev pub orderNumber : Ordering → ℕ
+orderNumber Less = 1
+orderNumber Equal = 2
+orderNumber Greater = 3
+orderNumber Unordered = 4
+orderNumber (NoOrder n p) = 0
+
 abbrev pub orderSays : Ordering → Says
-orderSays Less = says 0 0 []
-orderSays Equal = says 0 0 []
-orderSays Greater = says 0 0 []
-orderSays Unordered = says 0 0 []
-orderSays (NoOrder n p) = says n p []
+orderSays Less = says 0 0 (1 ∷ [])
+orderSays Equal = says 0 0 (2 ∷ [])
+orderSays Greater = says 0 0 (3 ∷ [])
+orderSays Unordered = says 0 0 (4 ∷ [])
+orderSays (NoOrder n p) = says n p (0 ∷ [])
 
 -- ---- the answer of a call, where its tests find `due`
 
@@ -106,26 +120,26 @@ abbrev pub orderOf : Ordering → Checked → Ordering
 orderOf o Valid = o
 orderOf o (Refused n p) = NoOrder n p
 
--- the answer says what is to be said, with these values where nothing is refused; and it is `give` of what the tests find
-pub record Answers {A : Type 0} (saysOf : A → Says) (values : List ℕ) (give : Checked → A) (due : Checked) (r : A) : Type 0 where
-  pub told : saysOf r ≡ tells due values
+-- where the tests find `due`, the answer r says `said due`, and is `give due`
+pub record Answers {A : Type 0} (saysOf : A → Says) (said : Checked → Says) (give : Checked → A) (due : Checked) (r : A) : Type 0 where
+  pub told : saysOf r ≡ said due
   pub answer : r ≡ give due
 
 -- a check that is the due one
 abbrev pub Checks : Checked → Checked → Type 0
-Checks = Answers checkedSays [] same
+Checks = Answers checkedSays (tells [] []) same
 
 -- a distance x
 abbrev pub Measures : Float → Checked → Distance → Type 0
-Measures x = Answers distanceSays [] (distanceOf x)
+Measures x = Answers distanceSays (tells [] (x ∷ [])) (distanceOf x)
 
 -- yes where b holds
 abbrev pub Asks : Bool → Checked → Asked → Type 0
-Asks b = Answers askedSays (cond b 1 0 ∷ []) (askedOf b)
+Asks b = Answers askedSays (tells (cond b 1 0 ∷ []) []) (askedOf b)
 
 -- an order
 abbrev pub Orders : Ordering → Checked → Ordering → Type 0
-Orders o = Answers orderSays [] (orderOf o)
+Orders o = Answers orderSays (tells (orderNumber o ∷ []) []) (orderOf o)
 
 -- ---- what a call leaves in a lent output
 
@@ -136,5 +150,5 @@ leaves (Refused n p) new old = old
 
 -- a vector of d places is written as the list `new`
 pub record Writes (due : Checked) (d : ℕ) (new old : List ℕ) (r : Written) (left : List ℕ) : Type 0 where
-  pub answer : Answers writtenSays (d ∷ length new ∷ []) (writtenOf d (length new)) due r
+  pub answer : Answers writtenSays (tells (d ∷ length new ∷ []) []) (writtenOf d (length new)) due r
   pub output : left ≡ leaves due new old

@@ -2,13 +2,13 @@
 -- promise. Assumes nothing.
 use Prim.Native.Nat.{ℕ, _≤_, _<_}
 use mathlib.Core.Bool.{Bool, true, false, _||_, or-true}
-use mathlib.Core.List.{List, _++_}
+use mathlib.Core.List.{List, [], _++_}
 use mathlib.Core.Path.{_≡_, refl, sym, ap, _∙_}
 use lib.Dec.{ltb}
 use lib.ListN.{length, drop}
 use lib.Ieee.{Float}
 use borrow.Author.Tests.{lt-ltb, le-ltb, ltb-false}
-use Rattle.refusal.specs.Answers.{refuse, Says, Answers, leaves, writtenOf}
+use Rattle.refusal.specs.Answers.{refuse, Says, tells, Answers, leaves, writtenOf}
 use Rattle.refusal.specs.declared.Checked.{Checked}
 use Rattle.refusal.specs.declared.Checked.the-variants.{Valid, Refused}
 use Rattle.refusal.specs.declared.Written.the-variants.{Done, Refused as NotWritten}
@@ -41,7 +41,7 @@ room-passed n i v e = go (ltb i n) (ltb v n) refl refl e
 
 module _ {A : Type 0} {saysOf : A → Says} {numbers : List ℕ} {give : Checked → A} {due : Checked} {v : Vector}
     {oi : List ℕ} {ov : List Float} {r : A} where
-  pub refused-writes : {n p : ℕ} → due ≡ Refused n p → Answers saysOf numbers give due r → WritesPair saysOf numbers give due v oi ov r oi ov
+  pub refused-writes : {n p : ℕ} → due ≡ Refused n p → Answers saysOf (tells numbers []) give due r → WritesPair saysOf numbers give due v oi ov r oi ov
   refused-writes e told =
       record {
         answer = told;
@@ -49,7 +49,7 @@ module _ {A : Type 0} {saysOf : A → Says} {numbers : List ℕ} {give : Checked
         values = ap (λ (c : Checked). leaves c (v .values) ov) (sym e);
       }
 
-  pub done-writes : {oi′ : List ℕ} {ov′ : List Float} → due ≡ Valid → Answers saysOf numbers give due r
+  pub done-writes : {oi′ : List ℕ} {ov′ : List Float} → due ≡ Valid → Answers saysOf (tells numbers []) give due r
       → oi′ ≡ v .indexes ++ drop (size v) oi → length (v .values) ≡ size v → ov′ ≡ v .values ++ drop (size v) ov
       → WritesPair saysOf numbers give due v oi ov r oi′ ov′
   done-writes e told is many vs =

@@ -10,7 +10,7 @@ use Rattle.places.specs.Below.{anyBelow}
 use Rattle.places.specs.Search.{firstFrom}
 use Rattle.refusal.specs.Numbers.{DIMS, LENGTH, ORDER, INDEX, ZERO, DIFFER, ROOM}
 use Rattle.refusal.specs.Dims.{outside}
-use Rattle.refusal.specs.Answers.{refuse, next, Says, Answers, leaves, writtenSays, writtenOf}
+use Rattle.refusal.specs.Answers.{refuse, next, Says, tells, Answers, leaves, writtenSays, writtenOf}
 use Rattle.refusal.specs.declared.Checked.{Checked}
 use Rattle.refusal.specs.declared.Checked.the-variants.{Valid}
 use Rattle.refusal.specs.declared.Written.{Written}
@@ -60,7 +60,7 @@ roomOf n indexes values = refuse (ltb indexes n || ltb values n) ROOM n Valid
 -- a call answers, and leaves the vector v in a lent pair of lists, in front of what stood there; or the lists as they were
 pub record WritesPair {A : Type 0} (saysOf : A → Says) (numbers : List ℕ) (give : Checked → A) (due : Checked) (v : Vector)
     (oi : List ℕ) (ov : List Float) (r : A) (oi′ : List ℕ) (ov′ : List Float) : Type 0 where
-  pub answer : Answers saysOf numbers give due r
+  pub answer : Answers saysOf (tells numbers []) give due r
   pub indexes : oi′ ≡ leaves due (v .indexes) oi
   pub values : ov′ ≡ leaves due (v .values) ov
 

@@ -6,7 +6,7 @@ use lib.Dec.{eqb}
 use lib.ListN.{length}
 use lib.Ieee.{Float}
 use Rattle.refusal.specs.Numbers.{DIMS, BOUNDS}
-use Rattle.refusal.specs.Answers.{refuse, next, Answers, Asks, Orders, writtenSays, writtenOf}
+use Rattle.refusal.specs.Answers.{refuse, next, tells, Answers, Asks, Orders, writtenSays, writtenOf}
 use Rattle.refusal.specs.Bounds.{startOf, endOf, badBounds}
 use Rattle.refusal.specs.declared.Bound.{Bound}
 use Rattle.refusal.specs.declared.Checked.the-variants.{Valid}
@@ -20,7 +20,7 @@ use Rattle.svect.specs.Orders.{sameEntries, orderBy}
 
 -- the vector of d places without entries: there is nothing to write
 abbrev pub Zeroes : ℕ → Written → Type 0
-Zeroes d = Answers writtenSays (d ∷ 0 ∷ []) (writtenOf d 0) (refuse (badDims d) DIMS 0 Valid)
+Zeroes d = Answers writtenSays (tells (d ∷ 0 ∷ []) []) (writtenOf d 0) (refuse (badDims d) DIMS 0 Valid)
 
 -- "The slice has dims end - start, indexes less start, the same values"
 abbrev pub slice : Vector → ℕ → ℕ → Vector
