@@ -4,6 +4,7 @@ use native.Mathlib.Omega.{arith}
 use mathlib.Core.List.{List, [], _∷_}
 use mathlib.Core.Path.{_≡_, refl}
 use lib.Ieee.{Float}
+use lib.ListN.{getD}
 use Rattle.refusal.specs.Answers.{Says, tells, Answers, distanceOf}
 use Rattle.refusal.specs.declared.Checked.{Checked}
 use Rattle.refusal.specs.declared.Checked.the-variants.{Valid, Refused}
@@ -36,8 +37,8 @@ summedBack : Says → Summed
 summedBack s = go (s .floats)
   where
     go : List Float → Summed
-    go (xy ∷ x2 ∷ y2 ∷ fs) = Sums (record { xy = xy; x2 = x2; y2 = y2 })
-    go fs = NotSummed (s .number) (s .place)
+    go [] = NotSummed (s .number) (s .place)
+    go (x ∷ xs) = Sums (record { xy = x; x2 = getD xs 0 x; y2 = getD xs 1 x })
 
 summed-back : (r : Summed) → summedBack (summedSays r) ≡ r
 unfolding summedBack
