@@ -1,4 +1,0 @@
--- Laws of the exported calls.
-pub mod Headers
-pub mod Unknown
-pub mod Only

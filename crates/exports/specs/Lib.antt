@@ -1,4 +1,0 @@
--- The definitions that the contracts of the exported calls cite.
-pub mod Answers
-pub mod Bounds
-pub mod States

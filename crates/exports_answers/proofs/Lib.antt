@@ -1,0 +1,3 @@
+-- Laws of the exported calls.
+pub mod Unknown
+pub mod Only

@@ -1,0 +1,3 @@
+-- The definitions that the contracts of the exported calls cite.
+pub mod Answers
+pub mod Bounds

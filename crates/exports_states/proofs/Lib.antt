@@ -1,0 +1,3 @@
+-- Laws of the exported calls on states.
+pub mod Headers
+pub mod Only
