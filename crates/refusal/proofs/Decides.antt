@@ -81,6 +81,7 @@ checked-decided r s k l = decided checkedSays back (fair r k) (fair s l)
   where
     back : Says → Checked
     back = doneOr Refused (λ vs. Valid)
+
     fair : (r : Checked) → Numbered Refused r → back (checkedSays r) ≡ r
     fair Valid k = refl
     fair (Refused n p) k = rw (ne-eqb n 0 (k n p refl))
@@ -90,6 +91,7 @@ written-decided r s k l = decided writtenSays back (fair r k) (fair s l)
   where
     back : Says → Written
     back = doneOr NotWritten (λ vs. Done (getD vs 0 0) (getD vs 1 0))
+
     fair : (r : Written) → Numbered NotWritten r → back (writtenSays r) ≡ r
     fair (Done d len) k = refl
     fair (NotWritten n p) k = rw (ne-eqb n 0 (k n p refl))
@@ -99,6 +101,7 @@ merged-decided r s k l = decided mergedSays back (fair r k) (fair s l)
   where
     back : Says → Merged
     back = doneOr NotMerged (λ vs. Joined (getD vs 0 0) (getD vs 1 0) (getD vs 2 0))
+
     fair : (r : Merged) → Numbered NotMerged r → back (mergedSays r) ≡ r
     fair (Joined d len turns) k = refl
     fair (NotMerged n p) k = rw (ne-eqb n 0 (k n p refl))
@@ -108,6 +111,7 @@ asked-decided r s k l = decided askedSays back (fair r k) (fair s l)
   where
     back : Says → Asked
     back = doneOr NotAsked (λ vs. cond (eqb (getD vs 0 0) 1) Yes No)
+
     fair : (r : Asked) → Numbered NotAsked r → back (askedSays r) ≡ r
     fair Yes k = refl
     fair No k = refl
