@@ -7,7 +7,9 @@ ghost use Rattle.sparse.specs.Calls.{checkedOf};
 ghost use Rattle.merges.specs.Calls.{Joins};
 ghost use Rattle.merges.specs.declared.Op.the-variants.{Add, Sub, Mul};
 ghost use Rattle.folds.specs.Calls.{summedSays, Dots, L2s, SumsThree};
-ghost use Rattle.svect.specs.Calls.{Zeroes, Cuts, Equals, Compares};
+ghost use Rattle.sparse_slices.specs.Calls.{Cuts};
+ghost use Rattle.sparse_orders.specs.Calls.{Equals, Compares};
+ghost use Rattle.svect.specs.Calls.{Zeroes};
 ghost use Rattle.exports_answers.specs.Answers.{Tells, heard};
 ghost use Rattle.exports_answers.specs.Bounds.{startBound, endBound};
 

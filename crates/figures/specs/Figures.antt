@@ -21,7 +21,8 @@ use Rattle.sparse.specs.Vectors.{Vector, vector}
 use Rattle.sparse.specs.Calls.{checkedOf}
 use Rattle.merges.specs.Algebra.{joins, turnsOf}
 use Rattle.merges.specs.declared.Op.the-variants.{Add, Sub, Mul}
-use Rattle.svect.specs.Calls.{Cuts, Compares}
+use Rattle.sparse_slices.specs.Calls.{Cuts}
+use Rattle.sparse_orders.specs.Calls.{Compares}
 use Rattle.regions.specs.Capacity.{capacityFor}
 use Rattle.regions.specs.Regions.{Pair, pair}
 use Rattle.aggregate_svecf32.specs.States.{header}

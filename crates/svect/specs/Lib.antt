@@ -1,4 +1,2 @@
 -- The definitions that the contracts of `svect` cite.
-pub mod Orders
 pub mod Calls
-pub mod Loops

@@ -1,0 +1,4 @@
+-- Laws of equality and order of sparse vectors.
+pub mod Others
+pub mod Fair
+pub mod Meaning

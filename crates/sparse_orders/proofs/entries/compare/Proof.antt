@@ -1,0 +1,18 @@
+-- `sparse_orders::entries::compare` meets its contract: its tests are those of the definition, in their order. Assumes nothing.
+use Rattle.sparse_orders.proofs.entries.compare.Statement.{statement}
+use Rattle.sparse_orders.proofs.entries.compare.Tie as tie
+
+returns : tie.Need-returns
+returns c = rw (c .if1 .taken)
+
+returns-2 : tie.Need-returns-2
+returns-2 c = rw (c .before .if1 .left, c .if2 .taken)
+
+returns-3 : tie.Need-returns-3
+returns-3 c = rw (c .before .before .if1 .left, c .before .if2 .left, c .if3 .taken)
+
+returns-4 : tie.Need-returns-4
+returns-4 c = rw (c .before .before .if1 .left, c .before .if2 .left, c .if3 .left)
+
+pub compare-spec : {M : Type 1} → statement M
+compare-spec = tie.close (tie.spec returns returns-2 returns-3 returns-4)

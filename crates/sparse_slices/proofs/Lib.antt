@@ -1,0 +1,3 @@
+-- Laws of slices of sparse vectors.
+pub mod Cuts
+pub mod Meaning

@@ -1,0 +1,3 @@
+-- The definitions that the contracts of slices cite.
+pub mod Calls
+pub mod Loops
