@@ -69,6 +69,7 @@ enum {
 /*
  * Bit vectors: 1 to 65,535 bits in 64-bit words, as many as they fill; bit i is bit i % 64 of word i / 64, and bits at
  * and above dims are clear. "Vector" among the refusals is DIMS, LENGTH, PADDING [the last word]; left before right.
+ * A refusal leaves the float of a distance (dot, Hamming, Jaccard) as it was.
  */
 
 /* Checks a vector. Refuses: vector. */
@@ -124,6 +125,7 @@ uint32_t oxl_bvect_partial_cmp(uint32_t dims_a, const uint64_t *a, size_t a_len,
 /*
  * Sparse vectors: 1 to 1,048,575 places; the indexes that hold a value, rising, and the values, none a zero. What is
  * absent is zero. "Vector" among the refusals is DIMS, LENGTH, ORDER [entry], INDEX [entry], ZERO [entry].
+ * A refusal leaves the float of a distance (dot, L2) as it was.
  */
 
 /* Checks a vector. Refuses: vector. */
@@ -143,7 +145,10 @@ uint32_t oxl_svect_operator_l2(uint32_t dims_a, const uint32_t *ia, size_t ia_le
                                uint32_t dims_b, const uint32_t *ib, size_t ib_len, const float *vb, size_t vb_len,
                                float *value, size_t *place);
 
-/* *xy, *x2, *y2: the sums of the products, of the left's squares, of the right's. Refuses: left, right, DIFFER. */
+/*
+ * *xy, *x2, *y2: the sums of the products, of the left's squares, of the right's. Refuses: left, right, DIFFER.
+ * A refusal leaves all three as they were: a caller who does not look at the number reads old floats.
+ */
 uint32_t oxl_svect_three_sums(uint32_t dims_a, const uint32_t *ia, size_t ia_len, const float *va, size_t va_len,
                               uint32_t dims_b, const uint32_t *ib, size_t ib_len, const float *vb, size_t vb_len,
                               float *xy, float *x2, float *y2, size_t *place);
