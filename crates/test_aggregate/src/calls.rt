@@ -51,6 +51,47 @@ fn average(h: Header, ai: &[u32], av: &[f32], bi: &mut [u32], bv: &mut [f32]) {
     show::lists(bi, bv, closed());
 }
 
+// Runs a call on no state, or one that looks at a state. Answers whether the call is one of these.
+fn look(call: Call, n: &[u64; 7], ai: &[u32], av: &[f32]) -> bool {
+    match call {
+        Call::Fresh => show::header(aggregate_svecf32::fresh(n[0] as usize, n[1] as usize)),
+        Call::Capacity => shown::number(
+            aggregate_svecf32::capacity(read::small(n[0]), n[1] as usize) as u64,
+        ),
+        Call::Check => shown::checked(read::header(n).check(ai, av)),
+        _ => return false,
+    }
+    true
+}
+
+// Runs a call that writes what a state gives. Answers whether the call is one of these.
+fn give(call: Call, h: Header, ai: &[u32], av: &[f32], bi: &mut [u32], bv: &mut [f32]) -> bool {
+    match call {
+        Call::Sum => sum(h, ai, av, bi, bv),
+        Call::Average => average(h, ai, av, bi, bv),
+        _ => return false,
+    }
+    true
+}
+
+// Runs a call that changes a state.
+fn change(
+    call: Call,
+    h: Header,
+    ai: &mut [u32],
+    av: &mut [f32],
+    m: &[u64; 7],
+    bi: &mut [u32],
+    bv: &mut [f32],
+) {
+    match call {
+        Call::Row => row(h, ai, av, read::small(m[0]), bi, bv),
+        Call::Combine => combine(h, ai, av, read::header(m), bi, bv),
+        Call::Move => move_to(h, ai, av, m, bi, bv),
+        _ => shown::text(b""),
+    }
+}
+
 // Runs a call on what a line hands it.
 fn run(
     call: Call,
@@ -61,19 +102,14 @@ fn run(
     bi: &mut [u32],
     bv: &mut [f32],
 ) {
-    match call {
-        Call::Fresh => show::header(aggregate_svecf32::fresh(n[0] as usize, n[1] as usize)),
-        Call::Capacity => shown::number(
-            aggregate_svecf32::capacity(read::small(n[0]), n[1] as usize) as u64,
-        ),
-        Call::Check => shown::checked(read::header(n).check(ai, av)),
-        Call::Row => row(read::header(n), ai, av, read::small(m[0]), bi, bv),
-        Call::Combine => combine(read::header(n), ai, av, read::header(m), bi, bv),
-        Call::Move => move_to(read::header(n), ai, av, m, bi, bv),
-        Call::Sum => sum(read::header(n), ai, av, bi, bv),
-        Call::Average => average(read::header(n), ai, av, bi, bv),
-        Call::Unknown => shown::text(b""),
+    if look(call, n, ai, av) {
+        return;
     }
+    let h = read::header(n);
+    if give(call, h, ai, av, bi, bv) {
+        return;
+    }
+    change(call, h, ai, av, m, bi, bv);
 }
 
 // Whether a call is handed so many numbers in front of its first lists, and so many in front of the second.
