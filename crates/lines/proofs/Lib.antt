@@ -3,3 +3,4 @@ pub mod Numbers
 pub mod Texts
 pub mod Words
 pub mod Progress
+pub mod Finding

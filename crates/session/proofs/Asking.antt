@@ -10,10 +10,12 @@ use Rattle.merges.specs.declared.Op.{Op}
 use Rattle.lines.specs.Lines.{Line, vectorLine, badLine}
 use Rattle.lines.specs.declared.Named.the-variants.{Is, Bad as BadName}
 use Rattle.texts.specs.Texts.{badText}
-use Rattle.session.specs.Sessions.{Operand, operand, asks, bad, rest, firstVector, firstName, session, sessionOf}
+use Rattle.entry_bits.specs.Operands.{Operand, operand}
+use Rattle.session.specs.Sessions.{asks, bad, session, sessionOf}
+use Rattle.reading.specs.Starts.{rest, firstVector, firstName}
 use Rattle.session.specs.Answers.{textOf, answerOf}
-use Rattle.session.specs.Parts.{ReadsFrom}
-use Rattle.session.specs.declared.Read.the-variants.{Vector, Bad}
+use Rattle.reading.specs.Parts.{ReadsFrom}
+use Rattle.reading.specs.declared.Read.the-variants.{Vector, Bad}
 use Rattle.session.proofs.Fronts.{front, front-count}
 
 -- ---- a vector's line

@@ -14,9 +14,10 @@ use Rattle.lines.specs.declared.Numeral.the-variants.{Of}
 use Rattle.lines.specs.declared.Item.the-variants.{Of as OfItem}
 use Rattle.lines.proofs.Words.{first-word}
 use Rattle.texts.specs.Texts.{spelled, decimal, hex, entriesText}
-use Rattle.session.specs.Sessions.{Operand, rest, firstVector}
+use Rattle.entry_bits.specs.Operands.{Operand}
+use Rattle.reading.specs.Starts.{rest, firstVector}
 use Rattle.session.specs.Written.{written, Writable}
-use Rattle.session.proofs.Finding.{Lacks, index-append, lacks-append, lacks-one, index-next, before-next, after-next}
+use Rattle.lines.proofs.Finding.{Lacks, index-append, lacks-append, lacks-one, index-next, before-next, after-next}
 use Rattle.session.proofs.Digits.{glyph-not, glyph-no-colon, spelled-lacks, read-decimal, read-hex}
 
 -- ---- an entry

@@ -13,7 +13,7 @@ use Rattle.bytes.specs.Bytes.{indexOf}
 use Rattle.lines.specs.Numerals.{digitOf, allDigits, valueFrom, decimalOf, bitsOf}
 use Rattle.lines.specs.declared.Numeral.the-variants.{Of}
 use Rattle.texts.specs.Texts.{glyph, spelled, decimal, hex}
-use Rattle.session.proofs.Finding.{Lacks, lacks-append, lacks-one}
+use Rattle.lines.proofs.Finding.{Lacks, lacks-append, lacks-one}
 
 -- ---- digits
 

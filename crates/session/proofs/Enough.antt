@@ -15,9 +15,11 @@ use Rattle.places.proofs.Below.{le-or-lt}
 use Rattle.lines.specs.Lines.{Line, vectorLine, badLine, lineOf, namedOf}
 use Rattle.lines.specs.declared.Named.{Named}
 use Rattle.lines.specs.declared.Named.the-variants.{Is, Bad}
-use Rattle.session.specs.Sessions.{hasLine, firstLine, rest, firstVector, firstName, Session, session, sessionOf}
+use Rattle.reading.specs.Starts.{hasLine, firstLine, rest, firstVector, firstName}
+use Rattle.session.specs.Sessions.{Session, session, sessionOf}
 use Rattle.session.specs.Answers.{textOf, answerOf, ReadOf}
-use Rattle.session.proofs.Finding.{index-take, drop-take, line-found}
+use Rattle.lines.proofs.Finding.{index-take, drop-take}
+use Rattle.reading.proofs.Ends.{line-found}
 
 -- ---- one line
 

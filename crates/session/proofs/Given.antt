@@ -19,8 +19,10 @@ use Rattle.merges.specs.Calls.{Joins}
 use Rattle.merges.specs.declared.Op.{Op}
 use Rattle.merges.specs.declared.Op.the-variants.{Add, Sub, Mul}
 use Rattle.texts.specs.Texts.{vectorText, refusedText}
-use Rattle.session.specs.Sessions.{Operand, asks}
-use Rattle.session.specs.Answers.{valued, shown, told, textOf}
+use Rattle.entry_bits.specs.Operands.{Operand}
+use Rattle.session.specs.Sessions.{asks}
+use Rattle.entry_bits.specs.Operands.{valued, shown}
+use Rattle.session.specs.Answers.{told, textOf}
 use Rattle.session.proofs.Fronts.{front, front-count}
 
 -- ---- the answer of a merge

@@ -1,8 +1,5 @@
 -- Laws for the proofs of `session`, and of sessions as a whole.
 pub mod Fronts
-pub mod Finding
-pub mod Ends
-pub mod Shown
 pub mod Given
 pub mod Asking
 pub mod Enough

@@ -19,9 +19,11 @@ use Rattle.lines.specs.declared.Numeral.the-variants.{Of, Bad}
 use Rattle.lines.specs.declared.Item.{Item}
 use Rattle.lines.specs.declared.Item.the-variants.{Of as OfItem, Bad as BadItem}
 use Rattle.merges.specs.declared.Op.{Op}
-use Rattle.session.specs.Sessions.{Operand, asks, hasLine, firstLine, rest, firstVector, firstName, sessionOf}
+use Rattle.entry_bits.specs.Operands.{Operand}
+use Rattle.session.specs.Sessions.{asks, sessionOf}
+use Rattle.reading.specs.Starts.{hasLine, firstLine, rest, firstVector, firstName}
 use Rattle.session.specs.Written.{written, named, Writable}
-use Rattle.session.proofs.Finding.{line-found}
+use Rattle.reading.proofs.Ends.{line-found}
 use Rattle.session.proofs.Only.{vector-only}
 use Rattle.session.proofs.Meaning.{asked, read-back, only-written}
 

@@ -10,7 +10,9 @@ use Rattle.lines.specs.declared.Named.{Named}
 use Rattle.lines.specs.declared.Named.the-variants.{Is, Bad}
 use Rattle.merges.specs.declared.Op.{Op}
 use Rattle.merges.specs.declared.Op.the-variants.{Add, Sub, Mul}
-use Rattle.session.specs.Sessions.{Operand, operand, asks, rest, firstVector, firstName, session, sessionOf}
+use Rattle.entry_bits.specs.Operands.{Operand, operand}
+use Rattle.session.specs.Sessions.{asks, session, sessionOf}
+use Rattle.reading.specs.Starts.{rest, firstVector, firstName}
 use Rattle.session.specs.Written.{written, named, Writable}
 use Rattle.session.proofs.Back.{read-written, after-written}
 use Rattle.session.proofs.Only.{vector-only, named-only}

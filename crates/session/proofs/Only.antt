@@ -22,9 +22,11 @@ use Rattle.lines.proofs.Words.{first-word}
 use Rattle.merges.specs.declared.Op.{Op}
 use Rattle.merges.specs.declared.Op.the-variants.{Add, Sub, Mul}
 use Rattle.texts.specs.Texts.{decimal, hex, entriesText}
-use Rattle.session.specs.Sessions.{operand, hasLine, firstLine, rest, firstVector, firstName}
+use Rattle.entry_bits.specs.Operands.{operand}
+use Rattle.reading.specs.Starts.{hasLine, firstLine, rest, firstVector, firstName}
 use Rattle.session.specs.Written.{written, named}
-use Rattle.session.proofs.Finding.{found-split, line-found}
+use Rattle.lines.proofs.Finding.{found-split}
+use Rattle.reading.proofs.Ends.{line-found}
 use Rattle.session.proofs.Digits.{padded-length}
 use Rattle.session.proofs.Respelled.{decimal-only, hex-only}
 use Rattle.session.proofs.Back.{word, body, split-written}

@@ -7,7 +7,7 @@ use lib.ListN.{length, getD}
 use Rattle.merges.specs.declared.Op.{Op}
 use Rattle.merges.specs.declared.Op.the-variants.{Add, Sub, Mul}
 use Rattle.texts.specs.Texts.{vectorText, newline}
-use Rattle.session.specs.Sessions.{Operand}
+use Rattle.entry_bits.specs.Operands.{Operand}
 
 -- `v dims index:bits ...` with its newline
 abbrev pub written : Operand → List ℕ

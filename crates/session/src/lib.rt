@@ -1,20 +1,13 @@
 // A whole session of the program `oxlanyard`: bytes in, one line out. Any bytes get an answer.
 
 mod operating;
-mod reading;
-mod values;
 
 use lines::Named;
+use reading::Read;
 ghost use Prim.Native.Nat.{_≤_};
 ghost use lib.ListN.{length, take};
 ghost use Rattle.texts.specs.Puts.{Puts};
 ghost use Rattle.session.specs.Answers.{answerOf, Front};
-
-// A vector's line that was read: its dims, the number of its entries, and the place after it.
-pub enum Read {
-    Vector(u32, usize, usize),
-    Bad,
-}
 
 // Writes what is printed for the bytes s to the front of `out`, and answers how many bytes that is.
 pub fn answer(s: &[u8], out: &mut [u8; 8192]) -> usize

@@ -1,7 +1,6 @@
 // Runs the operation of a session, and writes the line. These are parts of `answer`, and no calls that a user makes: how
 // long the lists are is required.
 
-use crate::values;
 use merges::Op;
 use refusal::Merged;
 ghost use mathlib.Core.List.{map};
@@ -11,9 +10,10 @@ ghost use lib.ListN.{length};
 ghost use lib.Ieee.{binary32, ofBits};
 ghost use Rattle.texts.specs.Texts.{vectorText};
 ghost use Rattle.texts.specs.Puts.{Puts};
-ghost use Rattle.session.specs.Sessions.{operand};
-ghost use Rattle.session.specs.Answers.{shown};
-ghost use Rattle.session.specs.Parts.{Even, Fit, Tells};
+ghost use Rattle.entry_bits.specs.Operands.{operand};
+ghost use Rattle.entry_bits.specs.Operands.{shown};
+ghost use Rattle.entry_bits.specs.Operands.{Even};
+ghost use Rattle.session.specs.Parts.{Fit, Tells};
 
 // Writes the line of what two vectors gave.
 fn line(
@@ -35,7 +35,7 @@ fn line(
 {
     let n = indexes.len();
     let mut bits = [0u32; 256];
-    values::shown(op, ia, ba, ib, bb, indexes, values, &mut bits);
+    entry_bits::shown(op, ia, ba, ib, bb, indexes, values, &mut bits);
     texts::vector(out, dims, indexes, &bits[..n])
 }
 
@@ -84,8 +84,8 @@ pub fn operate(
     let nb = bb.len();
     let mut va = [0.0f32; 128];
     let mut vb = [0.0f32; 128];
-    values::values(ba, &mut va);
-    values::values(bb, &mut vb);
+    entry_bits::values(ba, &mut va);
+    entry_bits::values(bb, &mut vb);
     give(
         op,
         dims_a,

@@ -6,7 +6,7 @@ use mathlib.Core.Path.{_≡_, sym, _∙_}
 use lib.ListN.{drop, replicate}
 use borrow.Author.Needs.{needs}
 use Rattle.lines.specs.declared.Named.the-variants.{Is}
-use Rattle.session.specs.Sessions.{firstVector, firstName}
+use Rattle.reading.specs.Starts.{firstVector, firstName}
 use Rattle.session.proofs.Fronts.{within}
 use Rattle.session.proofs.Asking.{Took, read-bad, read-vector, first-bad, second-bad, third-bad, extra, asked}
 use Rattle.session.proofs.answer.Statement.{statement}

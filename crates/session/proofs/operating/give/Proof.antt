@@ -2,9 +2,9 @@
 use native.Mathlib.Omega.{arith}
 use mathlib.Core.Path.{refl, sym, _∙_}
 use borrow.Author.Needs.{needs}
-use Rattle.session.specs.Sessions.{Operand, operand}
+use Rattle.entry_bits.specs.Operands.{Operand, operand}
 use Rattle.session.proofs.Fronts.{within}
-use Rattle.session.proofs.Shown.{shown-dims}
+use Rattle.entry_bits.proofs.Printed.{shown-dims}
 use Rattle.session.proofs.Given.{Came, told-refused, told-done}
 use Rattle.session.proofs.operating.give.Statement.{statement}
 use Rattle.session.proofs.operating.give.Tie as tie

@@ -5,10 +5,10 @@ use mathlib.Core.List.{List}
 use mathlib.Core.Path.{_≡_}
 use lib.ListN.{length, take, replicate}
 use borrow.Author.Needs.{needs}
-use Rattle.session.specs.Sessions.{operand}
-use Rattle.session.specs.Answers.{shown}
+use Rattle.entry_bits.specs.Operands.{operand}
+use Rattle.entry_bits.specs.Operands.{shown}
 use Rattle.session.proofs.Fronts.{front, front-count}
-use Rattle.session.proofs.Shown.{shown-length}
+use Rattle.entry_bits.proofs.Printed.{shown-length}
 use Rattle.session.proofs.operating.line.Statement.{statement}
 use Rattle.session.proofs.operating.line.Tie as tie
 

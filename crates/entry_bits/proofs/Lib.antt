@@ -1,0 +1,2 @@
+-- Laws of the bits to print.
+pub mod Printed

@@ -1,0 +1,2 @@
+-- Laws for reading lines.
+pub mod Ends
