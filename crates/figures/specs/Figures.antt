@@ -24,8 +24,9 @@ use Rattle.merges.specs.declared.Op.the-variants.{Add, Sub, Mul}
 use Rattle.svect.specs.Calls.{Cuts, Compares}
 use Rattle.regions.specs.Capacity.{capacityFor}
 use Rattle.regions.specs.Regions.{Pair, pair}
+use Rattle.averages.specs.Averages.{shared}
 use Rattle.aggregate_svecf32.specs.States.{header}
-use Rattle.aggregate_svecf32.specs.Calls.{rowOf, taken, shared}
+use Rattle.aggregate_svecf32.specs.Calls.{rowOf, taken}
 use Rattle.aggregate_svecf32.specs.declared.Header.{Header}
 
 -- ---- numbers
