@@ -1,9 +1,9 @@
 -- Document 01, "Aggregate states": the tests of each call in their order, what it is to do where they find nothing, and what it promises.
 use Prim.Native.Nat.{ℕ, _+_, _-_}
-use mathlib.Core.Bool.{Bool, true, not, cond, _&&_, _||_}
+use mathlib.Core.Bool.{Bool, true, not, cond, _&&_}
 use mathlib.Core.List.{List, [], _∷_}
 use mathlib.Core.Path.{_≡_}
-use lib.Dec.{leb, ltb, eqb}
+use lib.Dec.{ltb, eqb}
 use lib.ListN.{length}
 use lib.Ieee.{Float}
 use Rattle.refusal.specs.Numbers.{DIMS, DIFFER, ROOM, NEED, COUNT, NOT_BEGUN, NOT_NEEDED}
@@ -19,6 +19,7 @@ use Rattle.regions.specs.Capacity.{capacityFor}
 use Rattle.regions.specs.Regions.{Pair, inside, Stands}
 use Rattle.in_place.specs.Turns.{rowTurns}
 use Rattle.averages.specs.Averages.{shared}
+use Rattle.headers.specs.Headers.{roomFor}
 use Rattle.aggregate_svecf32.specs.States.{header, numbersOf, held, stateOf}
 use Rattle.aggregate_svecf32.specs.declared.Header.{Header}
 use Rattle.aggregate_svecf32.specs.declared.Told.{Told}
@@ -119,7 +120,7 @@ Combines h p g q = Acts h (combineOf h p g q) (combined h p g q) p
 
 -- "a move for n where capacity is dims, or capacity - len is at least n"
 abbrev pub spare : Header → ℕ → Bool
-spare h n = eqb (h .capacity) (h .dims) || leb n (h .capacity - h .len)
+spare h n = roomFor (h .dims) (h .len) (h .capacity) n
 
 -- "STATE, NOT_BEGUN, 1, .. NEED or NOT_NEEDED, then ROOM for a region or output too short. A move's new region is tested here: first inside
 -- its lists, then long enough."

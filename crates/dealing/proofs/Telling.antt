@@ -23,7 +23,8 @@ use Rattle.sparse.proofs.Entries.{entries-same}
 use Rattle.sparse.proofs.Meaning.{at-below}
 use Rattle.regions.specs.Regions.{Pair}
 use Rattle.averages.specs.Averages.{over, shared}
-use Rattle.aggregate_svecf32.specs.States.{passes, held, stateOf}
+use Rattle.headers.specs.Headers.{passes}
+use Rattle.aggregate_svecf32.specs.States.{held, stateOf}
 use Rattle.aggregate_svecf32.specs.Calls.{finishOf}
 use Rattle.aggregate_svecf32.specs.declared.Header.{Header}
 use Rattle.aggregate_svecf32.proofs.Consistent.{state-sure}
