@@ -17,13 +17,14 @@ use Rattle.sparse.specs.Vectors.{Vector}
 use Rattle.sparse.proofs.Writes.{room-passed, done}
 use Rattle.regions.specs.Loops.{Fitting, Copied}
 use Rattle.regions.specs.Regions.{Pair}
+use Rattle.averages.specs.Averages.{shared}
+use Rattle.averages.specs.Loops.{Divides, Divided}
+use Rattle.averages.proofs.Shares.{shared-many}
 use Rattle.aggregate_svecf32.specs.States.{held, stateOf}
-use Rattle.aggregate_svecf32.specs.Calls.{finishOf, shared, Sums, Averages}
-use Rattle.aggregate_svecf32.specs.Loops.{Divides, Divided}
+use Rattle.aggregate_svecf32.specs.Calls.{finishOf, Sums, Averages}
 use Rattle.aggregate_svecf32.specs.declared.Header.{Header}
 use Rattle.aggregate_svecf32.proofs.Consistent.{Sure, held-cut, state-sure}
 use Rattle.aggregate_svecf32.proofs.Held.{cut}
-use Rattle.aggregate_svecf32.proofs.Shares.{shared-many}
 
 -- a state that has begun, and room for its entries in two lists of so many indexes and values
 record Finishes (h : Header) (p : Pair) (indexes values : ℕ) : Type 0 where

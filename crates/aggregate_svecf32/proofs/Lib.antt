@@ -1,7 +1,6 @@
 -- Laws of aggregate states.
 pub mod Consistent
 pub mod Held
-pub mod Shares
 pub mod Acting
 pub mod Finishing
 pub mod Moved

@@ -16,9 +16,11 @@ use Rattle.sparse.specs.Calls.{Leaves}
 use Rattle.sparse.proofs.Writes.{refused, done}
 use Rattle.regions.specs.Regions.{Pair, pair}
 use Rattle.regions.proofs.Stands.{stands-some}
+use Rattle.averages.specs.Averages.{shared}
+use Rattle.averages.proofs.Shares.{shared-many}
 use Rattle.aggregate_svecf32.specs.States.{held}
 use Rattle.aggregate_svecf32.specs.Calls.{Deed, Acts, taken, rowOf, Rows, combineOf, combined, Combines, moveOf, moved, Moves}
-use Rattle.aggregate_svecf32.specs.Calls.{finishOf, shared, Sums, Averages}
+use Rattle.aggregate_svecf32.specs.Calls.{finishOf, Sums, Averages}
 use Rattle.aggregate_svecf32.specs.declared.Header.{Header}
 use Rattle.aggregate_svecf32.specs.declared.Told.{Told}
 use Rattle.aggregate_svecf32.specs.declared.Told.the-variants.{Done, Refused as Kept}
@@ -26,7 +28,6 @@ use Rattle.aggregate_svecf32.proofs.Acting.{acts-refused, acts-done}
 use Rattle.aggregate_svecf32.proofs.Coming.{combine-none}
 use Rattle.aggregate_svecf32.proofs.Finishing.{finish-sure}
 use Rattle.aggregate_svecf32.proofs.Keeps.{Fits, row-fits, combine-tests, combined-fits, moved-fits}
-use Rattle.aggregate_svecf32.proofs.Shares.{shared-many}
 
 -- ---- calls on a state
 

@@ -1,27 +1,25 @@
 -- Document 01, "Aggregate states": the tests of each call in their order, what it is to do where they find nothing, and what it promises.
 use Prim.Native.Nat.{ℕ, _+_, _-_}
-use lib.IntN.{pos}
-use mathlib.Core.Bool.{Bool, true, not, cond, _&&_, _||_}
+use mathlib.Core.Bool.{Bool, true, not, cond, _&&_}
 use mathlib.Core.List.{List, [], _∷_}
 use mathlib.Core.Path.{_≡_}
-use lib.Dec.{leb, ltb, eqb}
+use lib.Dec.{ltb, eqb}
 use lib.ListN.{length}
-use lib.Ieee.{Float, binary32, ofInt, div}
+use lib.Ieee.{Float}
 use Rattle.refusal.specs.Numbers.{DIMS, DIFFER, ROOM, NEED, COUNT, NOT_BEGUN, NOT_NEEDED}
 use Rattle.refusal.specs.Answers.{refuse, next, Says, says, Answers}
 use Rattle.refusal.specs.declared.Checked.{Checked}
 use Rattle.refusal.specs.declared.Checked.the-variants.{Valid, Refused}
 use Rattle.refusal.specs.declared.Written.{Written}
-use Rattle.sparse.specs.Cells.{keep}
-use Rattle.sparse.specs.Vectors.{Vector, vector, size, at, vectorOf}
+use Rattle.sparse.specs.Vectors.{Vector, vector, size}
 use Rattle.sparse.specs.Calls.{checkedOf, roomOf, Leaves}
-use Rattle.sparse.specs.declared.Cell.{Cell}
-use Rattle.sparse.specs.declared.Cell.the-variants.{Empty, Full}
 use Rattle.merges.specs.Algebra.{joins}
 use Rattle.merges.specs.declared.Op.the-variants.{Add}
 use Rattle.regions.specs.Capacity.{capacityFor}
 use Rattle.regions.specs.Regions.{Pair, inside, Stands}
 use Rattle.in_place.specs.Turns.{rowTurns}
+use Rattle.averages.specs.Averages.{shared}
+use Rattle.headers.specs.Headers.{roomFor}
 use Rattle.aggregate_svecf32.specs.States.{header, numbersOf, held, stateOf}
 use Rattle.aggregate_svecf32.specs.declared.Header.{Header}
 use Rattle.aggregate_svecf32.specs.declared.Told.{Told}
@@ -122,7 +120,7 @@ Combines h p g q = Acts h (combineOf h p g q) (combined h p g q) p
 
 -- "a move for n where capacity is dims, or capacity - len is at least n"
 abbrev pub spare : Header → ℕ → Bool
-spare h n = eqb (h .capacity) (h .dims) || leb n (h .capacity - h .len)
+spare h n = roomFor (h .dims) (h .len) (h .capacity) n
 
 -- "STATE, NOT_BEGUN, 1, .. NEED or NOT_NEEDED, then ROOM for a region or output too short. A move's new region is tested here: first inside
 -- its lists, then long enough."
@@ -148,14 +146,6 @@ Moves h p n q start long = Acts h (moveOf h p n q start long) (moved h p n start
 -- ---- sum and average: "write to an output pair and leave the state .. Room: len."
 unfoldable pub finishOf : Header → Pair → ℕ → ℕ → Checked
 finishOf h p indexes values = next (stateOf h p) (refuse (not (h .begun)) NOT_BEGUN 0 (roomOf (h .len) indexes values))
-
--- "Average divides each value once by the count as f32 and drops zero quotients."
-abbrev pub over : ℕ → Cell → Cell
-over n Empty = Empty
-over n (Full v) = keep (div binary32 v (ofInt binary32 (pos n)))
-
-abbrev pub shared : ℕ → Vector → Vector
-shared n v = vectorOf (v .dims) (λ k. over n (at v k))
 
 abbrev pub Sums : Header → Pair → List ℕ → List Float → Written → List ℕ → List Float → Type 0
 Sums h p oi ov = Leaves (finishOf h p (length oi) (length ov)) (held h p) oi ov

@@ -1,18 +1,17 @@
 -- Document 01, "Aggregate states": what a header says of its region, and when it is consistent.
 use Prim.Native.Nat.{ℕ}
-use mathlib.Core.Bool.{Bool, true, false, not, cond, _&&_}
+use mathlib.Core.Bool.{Bool, false, not, cond}
 use mathlib.Core.List.{List, [], _∷_}
-use lib.Dec.{leb, ltb, eqb}
+use lib.Dec.{eqb}
 use lib.ListN.{getD}
 use Rattle.refusal.specs.Numbers.{ROOM, STATE}
 use Rattle.refusal.specs.Answers.{refuse}
 use Rattle.refusal.specs.declared.Checked.{Checked}
-use Rattle.refusal.specs.declared.Checked.the-variants.{Valid, Refused}
+use Rattle.refusal.specs.declared.Checked.the-variants.{Valid}
 use Rattle.places.specs.Below.{one}
 use Rattle.sparse.specs.Vectors.{Vector, vector}
-use Rattle.sparse.specs.Calls.{badDims, checkedOf}
-use Rattle.regions.specs.Capacity.{isCapacity}
 use Rattle.regions.specs.Regions.{Pair, part, inside}
+use Rattle.headers.specs.Headers.{fair, zeros}
 use Rattle.aggregate_svecf32.specs.declared.Header.{Header}
 
 -- a state of this region, begun or not, with dims, len, capacity and count
@@ -38,25 +37,12 @@ fresh start length = header start length false 0 0 0 0
 abbrev pub held : Header → Pair → Vector
 held h p = vector (h .dims) (part (h .start) (h .len) (p .indexes)) (part (h .start) (h .len) (p .values))
 
-abbrev pub passes : Checked → Bool
-passes Valid = true
-passes (Refused n p) = false
-
--- "if begun, dims is a sparse dims, capacity is a capacity for some n up to 2,097,150, len <= capacity <= region length, count in
--- 1..=16,777,216, and the first len entries are a valid sparse vector"
+-- "if begun, .." and "if not begun, ..": the tests of `headers`
 abbrev pub begunFairly : Header → Pair → Bool
-begunFairly h p =
-    not (badDims (h .dims))
-    && isCapacity (h .dims) (h .capacity)
-    && leb (h .len) (h .capacity)
-    && leb (h .capacity) (h .length)
-    && ltb 0 (h .count)
-    && leb (h .count) 16777216
-    && passes (checkedOf (held h p))
+begunFairly h p = fair (h .length) (h .len) (h .capacity) (h .count) (held h p)
 
--- "if not begun, dims, len, capacity and count are 0"
 abbrev pub allZero : Header → Bool
-allZero h = eqb (h .dims) 0 && eqb (h .len) 0 && eqb (h .capacity) 0 && eqb (h .count) 0
+allZero h = zeros (h .dims) (h .len) (h .capacity) (h .count)
 
 -- "A header is consistent when"
 unfoldable pub consistent : Header → Pair → Bool

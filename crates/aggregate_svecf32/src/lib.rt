@@ -188,7 +188,7 @@ impl Header {
         }
         let start = self.start;
         let end = start + self.len;
-        let n = writing::divide(
+        let n = averages::divide(
             self.dims,
             &ai[start..end],
             &av[start..end],

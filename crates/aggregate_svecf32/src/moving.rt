@@ -1,7 +1,6 @@
 // What a move tests before it copies.
 
 use super::Header;
-use super::taking;
 use refusal::Checked;
 ghost use Rattle.refusal.specs.Answers.{Checks};
 ghost use Rattle.regions.specs.Regions.{pair};
@@ -30,7 +29,7 @@ pub fn ready(
     if (h.dims as usize) < more {
         return Checked::Refused(refusal::DIMS, 0);
     }
-    if taking::has_room(h, more) {
+    if headers::has_room(h.dims, h.len, h.capacity, more) {
         return Checked::Refused(refusal::NOT_NEEDED, 0);
     }
     if !regions::lies_inside(start, length, ci.len(), cv.len()) {

@@ -4,25 +4,12 @@
 use super::Header;
 use super::Told;
 use super::states;
-ghost use mathlib.Core.Bool.{true, false};
+ghost use mathlib.Core.Bool.{true};
 ghost use mathlib.Core.Path.{_≡_};
-ghost use Prim.Native.Nat.{_≤_};
 ghost use Rattle.sparse.specs.Vectors.{vector};
 ghost use Rattle.regions.specs.Regions.{pair};
-ghost use Rattle.aggregate_svecf32.specs.Calls.{Acts, spare, beginOf, begun, mergeOf, merged, takeOf, taken};
+ghost use Rattle.aggregate_svecf32.specs.Calls.{Acts, beginOf, begun, mergeOf, merged, takeOf, taken};
 ghost use Rattle.aggregate_svecf32.specs.Loops.{Given};
-
-// Whether the state needs no larger region for n entries more: it has one for every place, or it has
-// room for all n.
-pub fn has_room(h: Header, n: usize) -> bool
-    requires { ⌜ h .len ≤ h .capacity ⌝ }
-    ensures { λ r. ⌜ r ≡ spare h n ⌝ }
-{
-    if h.capacity == h.dims as usize {
-        return true;
-    }
-    n <= h.capacity - h.len
-}
 
 // A state that has not begun takes the entries as they are.
 fn begin(
@@ -71,7 +58,7 @@ fn merge(
     if 16777216 < count {
         return Told::Refused(h, refusal::COUNT, 0);
     }
-    if !has_room(h, bi.len()) {
+    if !headers::has_room(h.dims, h.len, h.capacity, bi.len()) {
         let wanted = regions::capacity(h.dims, h.len + bi.len());
         return Told::Refused(h, refusal::NEED, wanted);
     }

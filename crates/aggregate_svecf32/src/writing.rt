@@ -1,15 +1,10 @@
-// What sum and average share, and the walk that divides.
+// What sum and average share.
 
 use super::Header;
 use refusal::Checked;
-ghost use mathlib.Core.Path.{_≡_};
-ghost use Prim.Native.Nat.{_≤_};
-ghost use lib.ListN.{length};
 ghost use Rattle.refusal.specs.Answers.{Checks};
-ghost use Rattle.sparse.specs.Vectors.{vector};
 ghost use Rattle.regions.specs.Regions.{pair};
-ghost use Rattle.aggregate_svecf32.specs.Calls.{finishOf, shared};
-ghost use Rattle.aggregate_svecf32.specs.Loops.{Divides, Divided};
+ghost use Rattle.aggregate_svecf32.specs.Calls.{finishOf};
 
 // What a state that is to be written refuses with, for outputs of so many indexes and values.
 pub fn ready(h: Header, ai: &[u32], av: &[f32], indexes: usize, values: usize) -> Checked
@@ -28,27 +23,4 @@ pub fn ready(h: Header, ai: &[u32], av: &[f32], indexes: usize, values: usize) -
         return Checked::Refused(refusal::ROOM, h.len);
     }
     Checked::Valid
-}
-
-// Writes each value of a vector divided by the count, unless that is zero, and returns how many.
-pub fn divide(
-    dims: u32,
-    indexes: &[u32],
-    values: &[f32],
-    count: u32,
-    oi: &mut [u32],
-    ov: &mut [f32],
-) -> usize
-    requires { ⌜ Divides (vector dims (now indexes) (now values)) count (now oi) (now ov) ⌝ }
-    ensures { λ r. ⌜ Divided (shared count (vector dims (now (indexes .entry)) (now (values .entry)))) (now (oi .entry)) (now (ov .entry)) r (now (oi .exit)) (now (ov .exit)) ⌝ }
-{
-    let by = count as f32;
-    let mut n: usize = 0;
-    let mut p: usize = 0;
-    while p < indexes.len() {
-        let z = sparse::kept(values[p] / by);
-        n = sparse::put(oi, ov, n, indexes[p], z);
-        p += 1;
-    }
-    n
 }

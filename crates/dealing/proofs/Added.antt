@@ -22,7 +22,7 @@ use Rattle.sparse.proofs.Slices.{rebuilt}
 use Rattle.merges.specs.Algebra.{added, joins}
 use Rattle.merges.specs.declared.Op.the-variants.{Add}
 use Rattle.merges.proofs.Meaning.{joins-at, joins-valid}
-use Rattle.aggregate_svecf32.specs.States.{passes}
+use Rattle.headers.specs.Headers.{passes}
 use Rattle.dealing.specs.Totals.{numbersAt, totalAt, entry, total, totals}
 use Rattle.dealing.specs.Demand.{Exact}
 use Rattle.dealing.proofs.Numbers.{added-entry, row-entry, total-append, weight-both}

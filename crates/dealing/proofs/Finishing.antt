@@ -20,7 +20,8 @@ use Rattle.regions.specs.Capacity.{capacityFor}
 use Rattle.regions.specs.Regions.{Pair, pair, inside}
 use Rattle.regions.proofs.Capacities.{cap-most}
 use Rattle.regions.proofs.Stands.{both-inside}
-use Rattle.aggregate_svecf32.specs.States.{fresh, passes, stateOf}
+use Rattle.headers.specs.Headers.{passes}
+use Rattle.aggregate_svecf32.specs.States.{fresh, stateOf}
 use Rattle.aggregate_svecf32.specs.Calls.{Deed, Acts, mergeOf, spare, rowOf}
 use Rattle.aggregate_svecf32.specs.declared.Header.{Header}
 use Rattle.aggregate_svecf32.specs.declared.Told.{Told}

@@ -12,7 +12,7 @@ use Rattle.whole.proofs.Holds.{holds-ofInt}
 use Rattle.whole.proofs.Numbers.{zero32}
 use Rattle.whole.proofs.Quotients.{div-nonzero}
 use Rattle.sparse.specs.declared.Cell.the-variants.{Empty, Full}
-use Rattle.aggregate_svecf32.specs.Calls.{over}
+use Rattle.averages.specs.Averages.{over}
 use Rattle.dealing.specs.Totals.{entry, total, share}
 
 -- an entry over a count is the entry of the quotient

@@ -22,8 +22,10 @@ use Rattle.sparse.specs.declared.Cell.the-variants.{Empty, Full}
 use Rattle.sparse.proofs.Entries.{entries-same}
 use Rattle.sparse.proofs.Meaning.{at-below}
 use Rattle.regions.specs.Regions.{Pair}
-use Rattle.aggregate_svecf32.specs.States.{passes, held, stateOf}
-use Rattle.aggregate_svecf32.specs.Calls.{finishOf, over, shared}
+use Rattle.averages.specs.Averages.{over, shared}
+use Rattle.headers.specs.Headers.{passes}
+use Rattle.aggregate_svecf32.specs.States.{held, stateOf}
+use Rattle.aggregate_svecf32.specs.Calls.{finishOf}
 use Rattle.aggregate_svecf32.specs.declared.Header.{Header}
 use Rattle.aggregate_svecf32.proofs.Consistent.{state-sure}
 use Rattle.dealing.specs.Runs.{Store, State}

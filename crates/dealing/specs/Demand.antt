@@ -10,7 +10,7 @@ use Rattle.refusal.specs.declared.Written.{Written}
 use Rattle.sparse.specs.Vectors.{Vector, size}
 use Rattle.sparse.specs.Calls.{checkedOf, roomOf, Leaves}
 use Rattle.sparse.specs.Numbers.{isWhole}
-use Rattle.aggregate_svecf32.specs.States.{passes}
+use Rattle.headers.specs.Headers.{passes}
 use Rattle.aggregate_svecf32.specs.Calls.{Sums, Averages}
 use Rattle.dealing.specs.Runs.{Store, State}
 use Rattle.dealing.specs.Totals.{weightAt, totals, averages}

@@ -25,8 +25,9 @@ use Rattle.sparse_slices.specs.Calls.{Cuts}
 use Rattle.sparse_orders.specs.Calls.{Compares}
 use Rattle.regions.specs.Capacity.{capacityFor}
 use Rattle.regions.specs.Regions.{Pair, pair}
+use Rattle.averages.specs.Averages.{shared}
 use Rattle.aggregate_svecf32.specs.States.{header}
-use Rattle.aggregate_svecf32.specs.Calls.{rowOf, taken, shared}
+use Rattle.aggregate_svecf32.specs.Calls.{rowOf, taken}
 use Rattle.aggregate_svecf32.specs.declared.Header.{Header}
 
 -- ---- numbers

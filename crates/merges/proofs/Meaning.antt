@@ -1,31 +1,22 @@
 -- What add, sub and mul write is a vector that passes its check, and holds at each place what the two places give. Assumes nothing.
 use Prim.Native.Nat.{ℕ, _*_, _<_}
 use native.Mathlib.Nat.{zero-mul}
-use native.Mathlib.Omega.{arith}
-use mathlib.Core.Bool.{Bool, true, false, not, cond, _&&_, _||_, Bool·beq}
+use mathlib.Core.Bool.{Bool, true, false, not, _&&_, _||_, Bool·beq}
 use mathlib.Core.Path.{_≡_, refl, sym, _∙_}
 use lib.Dec.{eqb}
 use lib.Ieee.{Float, nan, inf, fin, binary32, ofBits, add, sub, mul, eq, neg, level, up, down}
 use Rattle.refusal.specs.declared.Checked.the-variants.{Valid}
-use Rattle.sparse.specs.Cells.{isZero, keep}
+use Rattle.sparse.specs.Cells.{isZero}
 use Rattle.sparse.specs.Vectors.{Vector, at}
 use Rattle.sparse.specs.Calls.{checkedOf}
 use Rattle.sparse.specs.Walk.{Sound}
 use Rattle.sparse.specs.declared.Cell.{Cell}
 use Rattle.sparse.specs.declared.Cell.the-variants.{Empty, Full}
-use Rattle.sparse.proofs.Meaning.{at-below, vector-valid, at-nonzero}
+use Rattle.sparse.proofs.Meaning.{keep-nonzero, at-below, vector-valid, at-nonzero}
 use Rattle.merges.specs.Algebra.{joined, joins}
 use Rattle.merges.specs.declared.Op.{Op}
 use Rattle.merges.specs.declared.Op.the-variants.{Add, Sub, Mul}
 use Rattle.merges.proofs.Made.{joinAt}
-
--- what is kept is no zero
-pub keep-nonzero : (w v : Float) → keep w ≡ Full v → isZero v ≡ false
-keep-nonzero w v e = go (isZero w) refl e
-  where
-    go : (b : Bool) → isZero w ≡ b → cond b Empty (Full w) ≡ Full v → isZero v ≡ false
-    go true h q = let r : _≡_ {A = ℕ} 0 1 = cc in absurd (omega arith)
-    go false h q = let r : w ≡ v = cc in rw (← r) h
 
 -- whether a number is zero does not turn on its sign
 level-zero : (s : Bool) (a b : ℕ) → b ≡ 0 → level s a false b ≡ eqb a 0

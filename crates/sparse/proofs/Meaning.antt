@@ -15,7 +15,7 @@ use borrow.Author.Tests.{eq-eqb, ne-eqb}
 use Rattle.places.proofs.Below.{le-or-lt}
 use Rattle.refusal.specs.declared.Checked.the-variants.{Valid}
 use Rattle.sparse.specs.Calls.{zeroAt, checkedOf}
-use Rattle.sparse.specs.Cells.{isZero, look, indexOf, valueOf, indexesBelow, valuesBelow}
+use Rattle.sparse.specs.Cells.{isZero, keep, look, indexOf, valueOf, indexesBelow, valuesBelow}
 use Rattle.sparse.specs.Vectors.{Vector, at, vectorOf}
 use Rattle.sparse.specs.Walk.{Rising, Sound}
 use Rattle.sparse.specs.declared.Cell.{Cell}
@@ -23,6 +23,14 @@ use Rattle.sparse.specs.declared.Cell.the-variants.{Empty, Full}
 use Rattle.sparse.proofs.Checks.{valid}
 use Rattle.sparse.proofs.Entries.{as-many}
 use Rattle.sparse.proofs.Look.{look-none}
+
+-- what is kept is no zero
+pub keep-nonzero : (w v : Float) → keep w ≡ Full v → isZero v ≡ false
+keep-nonzero w v e = go (isZero w) refl e
+  where
+    go : (b : Bool) → isZero w ≡ b → cond b Empty (Full w) ≡ Full v → isZero v ≡ false
+    go true h q = let r : _≡_ {A = ℕ} 0 1 = cc in absurd (omega arith)
+    go false h q = let r : w ≡ v = cc in rw (← r) h
 
 -- an index of xs and of what stands at n is one of xs, or n itself at the end
 last-or : (n j : ℕ) (z : Cell) (xs : List ℕ) → j < length (xs ++ indexOf z n)

@@ -1,4 +1,4 @@
--- `writing::divide` meets its contract. The loop's invariant: the quotients of the entries passed are written, without the zeros among them.
+-- `averages::divide` meets its contract. The loop's invariant: the quotients of the entries passed are written, without the zeros among them.
 -- The measure is the number of entries left. Assumes nothing.
 use Prim.Native.Nat.{_-_}
 use native.Mathlib.Omega.{arith}
@@ -8,10 +8,10 @@ use lib.Ieee.{binary32}
 use borrow.Author.Needs.{needs}
 use Rattle.whole.proofs.Numbers.{in-float}
 use Rattle.sparse.specs.Vectors.{vector}
-use Rattle.aggregate_svecf32.proofs.Shares.{Dividing, dividing-start, dividing-lengths}
-use Rattle.aggregate_svecf32.proofs.Shares.{dividing-more, dividing-done}
-use Rattle.aggregate_svecf32.proofs.writing.divide.Statement.{statement}
-use Rattle.aggregate_svecf32.proofs.writing.divide.Tie as tie
+use Rattle.averages.proofs.Shares.{Dividing, dividing-start, dividing-lengths}
+use Rattle.averages.proofs.Shares.{dividing-more, dividing-done}
+use Rattle.averages.proofs.divide.Statement.{statement}
+use Rattle.averages.proofs.divide.Tie as tie
 
 abbrev Inv-loop : tie.InvT-loop
 Inv-loop dims indexes values count oi₀ ov₀ by n₀ p₀ oi ov n p = Dividing count (vector dims indexes values) oi₀ ov₀ oi ov p n

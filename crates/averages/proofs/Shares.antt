@@ -16,12 +16,11 @@ use Rattle.sparse.specs.Walk.{Turned, Put, Sound}
 use Rattle.sparse.specs.declared.Cell.{Cell}
 use Rattle.sparse.specs.declared.Cell.the-variants.{Empty, Full}
 use Rattle.sparse.proofs.Entries.{as-many, put-most, Written, written-none, written-empty, written-lengths, written-more}
-use Rattle.sparse.proofs.Meaning.{at-below, vector-valid}
+use Rattle.sparse.proofs.Meaning.{keep-nonzero, at-below, vector-valid}
 use Rattle.sparse.proofs.Turns.{to-left}
 use Rattle.sparse.proofs.Walk.{Quiet, Going, going-start, going-more, going-end, left-cell, place-below}
-use Rattle.merges.proofs.Meaning.{keep-nonzero}
-use Rattle.aggregate_svecf32.specs.Calls.{over, shared}
-use Rattle.aggregate_svecf32.specs.Loops.{Divides, Divided}
+use Rattle.averages.specs.Averages.{over, shared}
+use Rattle.averages.specs.Loops.{Divides, Divided}
 
 -- what the average holds at the place k
 abbrev pub overAt : ℕ → Vector → ℕ → Cell

@@ -1,0 +1,2 @@
+-- Laws of averages.
+pub mod Shares

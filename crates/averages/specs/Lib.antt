@@ -1,0 +1,3 @@
+-- The definitions of averages.
+pub mod Averages
+pub mod Loops

@@ -1,0 +1,2 @@
+-- Laws of a header's numbers.
+pub mod Tests

@@ -1,0 +1,2 @@
+-- The definitions of a header's tests.
+pub mod Headers
