@@ -16,7 +16,7 @@ use Rattle.refusal.proofs.Chains.{refuse-valid}
 use Rattle.refusal.proofs.Dims.{in-range}
 use Rattle.sparse.specs.Calls.{badDims, checkedOf}
 use Rattle.sparse.specs.Vectors.{vector, size}
-use Rattle.sparse.specs.Walk.{Sound}
+use Rattle.sparse.specs.Sound.{Sound}
 use Rattle.sparse.proofs.Checks.{sound, valid}
 use Rattle.regions.specs.Capacity.{isCapacity}
 use Rattle.regions.specs.Regions.{Pair, part, inside}

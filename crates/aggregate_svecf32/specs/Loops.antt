@@ -6,7 +6,7 @@ use lib.ListN.{length, drop}
 use lib.Ieee.{Float}
 use Rattle.refusal.specs.declared.Checked.the-variants.{Valid}
 use Rattle.sparse.specs.Vectors.{Vector, size}
-use Rattle.sparse.specs.Walk.{Sound}
+use Rattle.sparse.specs.Sound.{Sound}
 use Rattle.regions.specs.Regions.{Pair}
 use Rattle.aggregate_svecf32.specs.States.{stateOf}
 use Rattle.aggregate_svecf32.specs.declared.Header.{Header}

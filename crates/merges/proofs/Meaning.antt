@@ -10,7 +10,7 @@ use Rattle.refusal.specs.declared.Checked.the-variants.{Valid}
 use Rattle.sparse.specs.Cells.{isZero, keep}
 use Rattle.sparse.specs.Vectors.{Vector, at}
 use Rattle.sparse.specs.Calls.{checkedOf}
-use Rattle.sparse.specs.Walk.{Sound}
+use Rattle.sparse.specs.Sound.{Sound}
 use Rattle.sparse.specs.declared.Cell.{Cell}
 use Rattle.sparse.specs.declared.Cell.the-variants.{Empty, Full}
 use Rattle.sparse.proofs.Meaning.{at-below, vector-valid, at-nonzero}

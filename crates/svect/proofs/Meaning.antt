@@ -15,7 +15,7 @@ use Rattle.places.proofs.Below.{and-true, any-false, any-none}
 use Rattle.refusal.specs.declared.Checked.the-variants.{Valid}
 use Rattle.sparse.specs.Calls.{checkedOf}
 use Rattle.sparse.specs.Vectors.{Vector, size, at}
-use Rattle.sparse.specs.Walk.{Sound}
+use Rattle.sparse.specs.Sound.{Sound}
 use Rattle.sparse.proofs.Meaning.{at-below, at-nonzero, vector-valid}
 use Rattle.svect.specs.Calls.{slice}
 use Rattle.svect.specs.Orders.{indexAt, valueAt, sameEntry, sameEntries}

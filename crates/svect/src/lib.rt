@@ -202,8 +202,8 @@ pub fn subvector(
     let Span::Of(start, end) = span else {
         return Written::Refused(refusal::BOUNDS, 0);
     };
-    let s = sparse::partition_point(indexes, start);
-    let e = sparse::partition_point(indexes, end);
+    let s = walks::partition_point(indexes, start);
+    let e = walks::partition_point(indexes, end);
     let n = e - s;
     if oi.len() < n {
         return Written::Refused(refusal::ROOM, n);
@@ -288,6 +288,6 @@ pub fn partial_cmp(
     if dims_a != dims_b {
         return Ordering::Unordered;
     }
-    let n = sparse::smaller(ia.len(), ib.len());
+    let n = walks::smaller(ia.len(), ib.len());
     compare_at(ia, va, ib, vb, first_other(ia, va, ib, vb, n))
 }

@@ -1,11 +1,11 @@
--- `sparse::partition_point` meets its contract. The loop's invariant: the entries before `low` have indexes below the place, and those
+-- `walks::partition_point` meets its contract. The loop's invariant: the entries before `low` have indexes below the place, and those
 -- from `high` on have not. The measure is the number of entries between. Assumes nothing.
 use Prim.Native.Nat.{_-_}
 use native.Mathlib.Omega.{arith}
 use borrow.Author.Needs.{needs}
-use Rattle.sparse.proofs.Halves.{Range, whole, none-left, upper, lower}
-use Rattle.sparse.proofs.partition_point.Statement.{statement}
-use Rattle.sparse.proofs.partition_point.Tie as tie
+use Rattle.walks.proofs.partition_point.Statement.{statement}
+use Rattle.walks.proofs.partition_point.Tie as tie
+use Rattle.walks.proofs.Halves.{Range, whole, none-left, upper, lower}
 
 abbrev Inv-loop : tie.InvT-loop
 Inv-loop indexes place low₀ high₀ low high = Range indexes place low high

@@ -1,7 +1,7 @@
--- `sparse::put` meets its contract: a full cell is stored in both lists, and an empty one in none. Assumes nothing.
+-- `walks::put` meets its contract: a full cell is stored in both lists, and an empty one in none. Assumes nothing.
 use borrow.Author.Needs.{needs}
-use Rattle.sparse.proofs.put.Statement.{statement}
-use Rattle.sparse.proofs.put.Tie as tie
+use Rattle.walks.proofs.put.Statement.{statement}
+use Rattle.walks.proofs.put.Tie as tie
 
 enum-known-z : tie.Need-enum-known-z
 enum-known-z c = search needs

@@ -1,10 +1,10 @@
--- `sparse::one_turn` meets its contract: where one list has ended the turn is the other's, and else the smaller index decides.
+-- `walks::one_turn` meets its contract: where one list has ended the turn is the other's, and else the smaller index decides.
 -- Assumes nothing.
 use native.Mathlib.Omega.{arith}
 use borrow.Author.Needs.{needs}
-use Rattle.sparse.proofs.Turns.{to-left, to-right, to-both}
-use Rattle.sparse.proofs.one_turn.Statement.{statement}
-use Rattle.sparse.proofs.one_turn.Tie as tie
+use Rattle.walks.proofs.one_turn.Statement.{statement}
+use Rattle.walks.proofs.one_turn.Tie as tie
+use Rattle.walks.proofs.Turns.{to-left, to-right, to-both}
 
 mul-right-turn : tie.Need-mul-right-turn
 mul-right-turn c = search needs

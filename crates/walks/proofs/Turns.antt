@@ -6,8 +6,8 @@ use mathlib.Core.Logic.{inl, inr}
 use mathlib.Core.Path.{_≡_, refl}
 use lib.ListN.{length, getD}
 use lib.Ieee.{Float, nan}
-use Rattle.sparse.specs.Walk.{turn, Turned}
 use Rattle.sparse.specs.declared.Cell.the-variants.{Empty, Full}
+use Rattle.walks.specs.Walk.{turn, Turned}
 
 module _ {is : List ℕ} {vs : List Float} {p : ℕ} {js : List ℕ} {ws : List Float} {q : ℕ} where
   pub to-left : p < length is → (q < length js → getD is p 0 < getD js q 0)

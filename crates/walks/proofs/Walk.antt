@@ -8,14 +8,15 @@ use mathlib.Core.Logic.{⊎-elim}
 use mathlib.Core.Path.{_≡_, sym, _∙_}
 use lib.ListN.{getD}
 use Rattle.places.proofs.Below.{le-or-lt}
 use Rattle.sparse.specs.Cells.{full}
 use Rattle.sparse.specs.Vectors.{Vector, size, at, inUnion}
-use Rattle.sparse.specs.Walk.{Taken, Standing, Turned, Split, Sound}
+use Rattle.sparse.specs.Sound.{Split, Sound}
 use Rattle.sparse.specs.declared.Cell.{Cell}
 use Rattle.sparse.specs.declared.Cell.the-variants.{Empty}
-use Rattle.sparse.specs.declared.Turn.{Turn}
 use Rattle.sparse.proofs.Checks.{size-most}
 use Rattle.sparse.proofs.Look.{look-end, look-gap, look-met, split-start, split-on, split-met}
+use Rattle.walks.specs.Walk.{Taken, Standing, Turned}
+use Rattle.walks.specs.declared.Turn.{Turn}
 
 -- ---- one vector, whose entry p is the first from the place k on, and a turn to a place m from k on
 module _ {v : Vector} (s : Sound v) {p k m : ℕ} {x : Cell} {p′ : ℕ} (cut : Split (v .indexes) p k)

@@ -6,7 +6,7 @@ use mathlib.Core.List.{List}
 use mathlib.Core.Logic.{⊎-elim}
 use mathlib.Core.Path.{_≡_}
 use lib.ListN.{length, getD}
-use Rattle.sparse.specs.Walk.{Rising, Split}
+use Rattle.sparse.specs.Sound.{Rising, Split}
 
 -- the entries before `low` have indexes below k, and those from `high` on have not
 pub record Range (is : List ℕ) (k low high : ℕ) : Type 0 where

@@ -1,6 +1,6 @@
--- `sparse::kept` meets its contract: its test is that of the definition. Assumes nothing.
-use Rattle.sparse.proofs.kept.Statement.{statement}
-use Rattle.sparse.proofs.kept.Tie as tie
+-- `walks::kept` meets its contract: its test is that of the definition. Assumes nothing.
+use Rattle.walks.proofs.kept.Statement.{statement}
+use Rattle.walks.proofs.kept.Tie as tie
 
 returns : tie.Need-returns
 returns c = rw (c .if1 .taken)

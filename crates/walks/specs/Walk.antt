@@ -1,16 +1,13 @@
 -- What the walk over two vectors' entries goes by, and what its parts promise to the loops. A user's promises do not cite these.
 use Prim.Native.Nat.{ℕ, _+_, _≤_, _<_}
-use mathlib.Core.Bool.{false}
 use mathlib.Core.List.{List}
 use mathlib.Core.Logic.{_⊎_}
 use mathlib.Core.Path.{_≡_}
 use lib.ListN.{length, getD, set}
 use lib.Ieee.{Float, nan}
-use Rattle.sparse.specs.Vectors.{Vector, size}
-use Rattle.sparse.specs.Calls.{zeroAt}
 use Rattle.sparse.specs.declared.Cell.{Cell}
 use Rattle.sparse.specs.declared.Cell.the-variants.{Empty, Full}
-use Rattle.sparse.specs.declared.Turn.{Turn}
+use Rattle.walks.specs.declared.Turn.{Turn}
 
 -- ---- one turn
 
@@ -59,24 +56,3 @@ pub record Put (z : Cell) (k n : ℕ) (oi : List ℕ) (ov : List Float) (r : ℕ
   pub count : r ≡ putCount z n
   pub indexes : oi′ ≡ putIndex z oi n k
   pub values : ov′ ≡ putValue z ov n
-
--- ---- vectors that passed
-
--- each index is below every later one
-abbrev pub Rising : List ℕ → Type 0
-Rising is = (i j : ℕ) → i < j → j < length is → getD is i 0 < getD is j 0
-
--- the entries before p have indexes below k, and those from p on have not
-pub record Split (is : List ℕ) (p k : ℕ) : Type 0 where
-  pub within : p ≤ length is
-  pub low : (j : ℕ) → j < p → getD is j 0 < k
-  pub high : (j : ℕ) → p ≤ j → j < length is → k ≤ getD is j 0
-
--- what a vector that passed its tests is
-pub record Sound (v : Vector) : Type 0 where
-  pub low : 1 ≤ v .dims
-  pub high : v .dims ≤ 1048575
-  pub even : size v ≡ length (v .values)
-  pub rising : Rising (v .indexes)
-  pub below : (j : ℕ) → j < size v → getD (v .indexes) j 0 < v .dims
-  pub nonzero : (j : ℕ) → j < size v → zeroAt (v .values) j ≡ false
