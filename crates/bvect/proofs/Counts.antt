@@ -10,16 +10,17 @@ use Rattle.places.specs.Below.{countBelow}
 use Rattle.places.proofs.Below.{count-most}
 use Rattle.whole.proofs.Numbers.{in-float}
 use Rattle.refusal.specs.declared.Checked.the-variants.{Valid, Refused}
-use Rattle.bit.specs.Bits.{meets}
-use Rattle.bit.specs.Calls.{pairOf, Sums, SumsBoth}
-use Rattle.bit.specs.declared.Op.{Op}
-use Rattle.bit.specs.declared.Op.the-variants.{And, Or}
+use Rattle.bits.specs.Calls.{pairOf}
+use Rattle.bits.proofs.Pairs.{pair-sound}
+use Rattle.bit_words.specs.Ops.{meets}
+use Rattle.bit_words.specs.declared.Op.{Op}
+use Rattle.bit_words.specs.declared.Op.the-variants.{And, Or}
+use Rattle.bit.specs.Calls.{Sums, SumsBoth}
 use Rattle.bit.specs.declared.Count.{Count}
 use Rattle.bit.specs.declared.Count.the-variants.{Ones, Refused as NoCount}
 use Rattle.bit.specs.declared.Counts.{Counts}
 use Rattle.bit.specs.declared.Counts.the-variants.{Ones as Both, Refused as NoCounts}
 use Rattle.bit.proofs.Counted.{count-done, count-refused, counts-done, counts-refused}
-use Rattle.bit.proofs.Pairs.{pair-sound}
 
 -- the code's 1.0
 pub one-float : ofBits binary32 1065353216 ≡ ofInt binary32 (pos 1)

@@ -17,13 +17,14 @@ use Rattle.refusal.specs.Answers.{orderOf}
 use Rattle.refusal.proofs.Told.{IsOrder, order-answer}
 use Rattle.refusal.specs.declared.Ordering.{Ordering}
 use Rattle.refusal.specs.declared.Ordering.the-variants.{Less, Equal, Greater, Unordered}
-use Rattle.bit.specs.Bits.{bitOf, bitAt, both}
-use Rattle.bit.specs.declared.Op.the-variants.{Xor}
-use Rattle.bit.specs.Calls.{eachOf}
-use Rattle.bit.proofs.Bits.{bit-join}
-use Rattle.bit.proofs.Lowest.{Lowest, trailing-lowest, xor-some}
-use Rattle.bit.proofs.Pairs.{Pair}
-use Rattle.bit.proofs.Vectors.{bit-at}
+use Rattle.bits.specs.Bits.{bitOf, bitAt}
+use Rattle.bits.specs.Calls.{eachOf}
+use Rattle.bits.proofs.Pairs.{Pair}
+use Rattle.bits.proofs.Vectors.{bit-at}
+use Rattle.bit_words.specs.Ops.{both}
+use Rattle.bit_words.specs.declared.Op.the-variants.{Xor}
+use Rattle.bit_words.proofs.Joins.{bit-join}
+use Rattle.bit_words.proofs.Lowest.{Lowest, trailing-lowest, xor-some}
 use Rattle.bvect.specs.Calls.{Compares}
 use Rattle.bvect.specs.Orders.{lowest, orderBelow, sameWords}
 use Rattle.bvect.specs.Words.{wordOrder, wordsOrder}

@@ -14,8 +14,8 @@ use Rattle.refusal.specs.declared.Asked.{Asked}
 use Rattle.refusal.specs.declared.Distance.{Distance}
 use Rattle.refusal.specs.declared.Ordering.{Ordering}
 use Rattle.refusal.specs.declared.Ordering.the-variants.{Unordered}
-use Rattle.bit.specs.Bits.{bitAt, wordsOf}
-use Rattle.bit.specs.Calls.{badDims, checkedOf, eachOf, pairOf, roomOf}
+use Rattle.bits.specs.Bits.{bitAt, wordsOf}
+use Rattle.bits.specs.Calls.{badDims, checkedOf, eachOf, pairOf, roomOf}
 use Rattle.bvect.specs.Orders.{sameWords, orderBelow}
 use Rattle.bvect.specs.Distances.{dotOf, hammingOf, jaccardOf}
 

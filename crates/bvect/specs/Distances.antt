@@ -4,9 +4,9 @@ use mathlib.Core.List.{List}
 use lib.IntN.{pos}
 use lib.Ieee.{Float, binary32, ofInt, neg, sub, div}
 use Rattle.places.specs.Below.{countBelow}
-use Rattle.bit.specs.Bits.{meets}
-use Rattle.bit.specs.declared.Op.{Op}
-use Rattle.bit.specs.declared.Op.the-variants.{And, Or, Xor}
+use Rattle.bit_words.specs.Ops.{meets}
+use Rattle.bit_words.specs.declared.Op.{Op}
+use Rattle.bit_words.specs.declared.Op.the-variants.{And, Or, Xor}
 
 -- the f32 number of the ones of two vectors put together
 abbrev pub onesAsFloat : Op → ℕ → List ℕ → List ℕ → Float

@@ -8,8 +8,8 @@ use Rattle.places.specs.Below.{anyBelow}
 use Rattle.places.specs.Search.{firstFrom}
 use Rattle.refusal.specs.declared.Ordering.{Ordering}
 use Rattle.refusal.specs.declared.Ordering.the-variants.{Less, Equal, Greater}
-use Rattle.bit.specs.Bits.{both}
-use Rattle.bit.specs.declared.Op.the-variants.{Xor}
+use Rattle.bit_words.specs.Ops.{both}
+use Rattle.bit_words.specs.declared.Op.the-variants.{Xor}
 
 -- "the position of the lowest differing bit", of two sides f and g with n places; n where no place differs
 abbrev pub lowest : (ℕ → Bool) → (ℕ → Bool) → ℕ → ℕ

@@ -3,7 +3,7 @@ use Prim.Native.Nat.{ℕ, _+_, _*_, _≤_}
 use mathlib.Core.List.{List}
 use lib.ListN.{length}
 use Rattle.refusal.specs.declared.Ordering.{Ordering}
-use Rattle.bit.specs.Bits.{bitOf, bitAt}
+use Rattle.bits.specs.Bits.{bitOf, bitAt}
 use Rattle.bvect.specs.Orders.{orderBelow}
 
 -- the order of two words, and of all words of two lists

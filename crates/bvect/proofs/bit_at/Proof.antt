@@ -1,7 +1,7 @@
 -- `bvect::bit_at` meets its contract: the code reads what the definition says. Assumes nothing.
 use borrow.Author.Needs.{needs}
 use mathlib.Core.Path.{refl}
-use Rattle.bit.specs.Bits.{bitOf, bitAt}
+use Rattle.bits.specs.Bits.{bitOf, bitAt}
 use Rattle.bvect.proofs.bit_at.Statement.{statement}
 use Rattle.bvect.proofs.bit_at.Tie as tie
 

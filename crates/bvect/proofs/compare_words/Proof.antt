@@ -2,7 +2,7 @@
 use native.Mathlib.Omega.{arith}
 use lib.Bits.{bitXor}
 use lib.Count.{trailingZeros}
-use Rattle.bit.proofs.Lowest.{Lowest}
+use Rattle.bit_words.proofs.Lowest.{Lowest}
 use Rattle.bvect.proofs.Orders.{first-lowest, word-greater, word-less}
 use Rattle.bvect.proofs.compare_words.Statement.{statement}
 use Rattle.bvect.proofs.compare_words.Tie as tie

@@ -4,8 +4,8 @@ use native.Mathlib.Numerals.{add-one}
 use native.Mathlib.Omega.{arith}
 use Prim.Native.Nat.{_-_, _≤_}
 use mathlib.Core.Path.{_≡_}
-use Rattle.bit.specs.Bits.{bitAt, cut, wordFrom}
-use Rattle.bit.proofs.Bits.{word-lt}
+use Rattle.bits.specs.Bits.{bitAt, cut, wordFrom}
+use Rattle.bits.proofs.Bits.{word-lt}
 use Rattle.bvect.proofs.gather.Statement.{statement}
 use Rattle.bvect.proofs.gather.Tie as tie
 

@@ -5,7 +5,7 @@ use native.Mathlib.Omega.{arith}
 use Prim.Native.Nat.{_+_, _-_, _*_, _≤_}
 use mathlib.Core.Path.{_≡_}
 use Rattle.places.proofs.Below.{Wrote, wrote-none, wrote-more, wrote-length}
-use Rattle.bit.specs.Bits.{bitAt, cut, wordFrom}
+use Rattle.bits.specs.Bits.{bitAt, cut, wordFrom}
 use Rattle.bvect.proofs.gather_all.Statement.{statement}
 use Rattle.bvect.proofs.gather_all.Tie as tie
 

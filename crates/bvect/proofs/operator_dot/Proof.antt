@@ -1,7 +1,7 @@
 -- `bvect::operator_dot` meets its contract: a count of bits is a float exactly, and is negated. Assumes nothing.
 use borrow.Author.Needs.{needs}
 use Rattle.refusal.proofs.Told.{distance-answer}
-use Rattle.bit.specs.declared.Op.the-variants.{And}
+use Rattle.bit_words.specs.declared.Op.the-variants.{And}
 use Rattle.bvect.proofs.Counts.{counted, counted-float, not-counted}
 use Rattle.bvect.proofs.operator_dot.Statement.{statement}
 use Rattle.bvect.proofs.operator_dot.Tie as tie

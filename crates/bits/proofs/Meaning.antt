@@ -10,11 +10,11 @@ use lib.Seq.{ext-getD}
 use borrow.Author.Tests.{le-ltb}
 use Rattle.places.proofs.Below.{at-below, length-below, le-or-lt}
 use Rattle.refusal.specs.declared.Checked.the-variants.{Valid}
-use Rattle.bit.specs.Bits.{bitOf, bitAt, cut, wordFrom, wordsFor, wordsOf}
-use Rattle.bit.specs.Calls.{checkedOf}
-use Rattle.bit.proofs.Bits.{bit-word, word-is}
-use Rattle.bit.proofs.Vectors.{bit-at, bit-past}
-use Rattle.bit.proofs.Checks.{Sound, valid}
+use Rattle.bits.specs.Bits.{bitOf, bitAt, cut, wordFrom, wordsFor, wordsOf}
+use Rattle.bits.specs.Calls.{checkedOf}
+use Rattle.bits.proofs.Bits.{bit-word, word-is}
+use Rattle.bits.proofs.Vectors.{bit-at, bit-past}
+use Rattle.bits.proofs.Checks.{Sound, valid}
 
 module _ (d : ℕ) (f : ℕ → Bool) where
   -- bit i of the words is f i below d, and clear from d on

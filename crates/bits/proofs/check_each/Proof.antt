@@ -1,9 +1,9 @@
--- `bit::check_each` meets its contract: the left vector's refusal, or else what the right one's check finds. Assumes nothing.
+-- `bits::check_each` meets its contract: the left vector's refusal, or else what the right one's check finds. Assumes nothing.
 use borrow.Author.Needs.{needs}
 use mathlib.Core.Path.{sym, _∙_}
 use Rattle.refusal.proofs.Told.{checked-answer}
-use Rattle.bit.proofs.check_each.Statement.{statement}
-use Rattle.bit.proofs.check_each.Tie as tie
+use Rattle.bits.proofs.check_each.Statement.{statement}
+use Rattle.bits.proofs.check_each.Tie as tie
 
 check-requires : tie.Need-check-requires
 check-requires c κs = search needs

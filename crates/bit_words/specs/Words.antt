@@ -1,16 +1,10 @@
 -- What the loops over words promise to the calls above them. A user's promises do not cite these.
-use Prim.Native.Nat.{ℕ, _*_, _≤_}
+use Prim.Native.Nat.{ℕ, _*_}
 use mathlib.Core.List.{List}
-use mathlib.Core.Path.{_≡_}
 use lib.ListN.{length, getD}
 use Rattle.places.specs.Below.{countBelow, listBelow}
-use Rattle.bit.specs.Bits.{meets, join}
-use Rattle.bit.specs.declared.Op.{Op}
-
--- two lists of as many words, and no more than a vector has
-pub record Alike (a b : List ℕ) : Type 0 where
-  pub long : length b ≡ length a
-  pub most : length a ≤ 1024
+use Rattle.bit_words.specs.Ops.{meets, join}
+use Rattle.bit_words.specs.declared.Op.{Op}
 
 -- the ones of all words put together
 abbrev pub onesOf : Op → List ℕ → List ℕ → ℕ

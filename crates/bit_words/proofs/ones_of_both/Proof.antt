@@ -1,14 +1,14 @@
--- `bit::ones_of_both` meets its contract. The loop's invariant: the two numbers are those of the first i words.
+-- `bit_words::ones_of_both` meets its contract. The loop's invariant: the two numbers are those of the first i words.
 -- The measure is the number of words left. Assumes nothing.
 use borrow.Author.Needs.{needs}
 use native.Mathlib.Omega.{arith}
 use Prim.Native.Nat.{_-_, _≤_}
 use mathlib.Core.Path.{_≡_}
 use lib.ListN.{length}
-use Rattle.bit.proofs.Vectors.{FirstOnes, ones-none, ones-more, ones-fit}
-use Rattle.bit.specs.declared.Op.the-variants.{And, Or}
-use Rattle.bit.proofs.ones_of_both.Statement.{statement}
-use Rattle.bit.proofs.ones_of_both.Tie as tie
+use Rattle.bit_words.proofs.Ones.{FirstOnes, ones-none, ones-more, ones-fit}
+use Rattle.bit_words.specs.declared.Op.the-variants.{And, Or}
+use Rattle.bit_words.proofs.ones_of_both.Statement.{statement}
+use Rattle.bit_words.proofs.ones_of_both.Tie as tie
 
 abbrev Inv-loop : tie.InvT-loop
 Inv-loop a b and₀ or₀ i₀ and or i = (i ≤ length a) × (FirstOnes And a b i and × FirstOnes Or a b i or)

@@ -1,27 +1,17 @@
--- The bits of one word: of two words put together, counted, and put back into a word. Assumes nothing.
+-- The bits of one word, and a word put together from bits. Assumes nothing.
 use Prim.Native.Nat.{ℕ, zero, suc, _+_, _*_, _/_, _%_, _^_, _<_}
 use native.Mathlib.Nat.{add-zero, pow-suc, mul-assoc, div-one, div-eq-of-lt}
 use native.Mathlib.Omega.{arith}
 use mathlib.Core.Bool.{Bool, true, false}
-use mathlib.Core.Logic.{_⊎_, inl, inr}
 use mathlib.Core.Path.{_≡_, refl, sym, ap, _∙_}
 use lib.Dec.{eqb}
 use lib.Arith.{lt-one}
 use lib.Pow.{shr-shr, pow-pos}
-use lib.Bits.{and-shr, or-shr, xor-shr, and-mod, or-mod, xor-mod, and-lt, or-lt, xor-lt}
-use lib.Count.{ones, ones-step}
-use Rattle.places.specs.Below.{one, countBelow}
-use Rattle.places.proofs.Below.{count-first, count-same, one-most}
-use Rattle.bit.specs.Bits.{bitOf, both, join, wordFrom}
-use Rattle.bit.specs.declared.Op.{Op}
-use Rattle.bit.specs.declared.Op.the-variants.{And, Or, Xor}
+use Rattle.places.specs.Below.{one}
+use Rattle.places.proofs.Below.{one-most}
+use Rattle.bits.specs.Bits.{bitOf, wordFrom}
 
 -- a remainder by two is a bit
-bit-cases : (n : ℕ) → n < 2 → (n ≡ 0) ⊎ (n ≡ 1)
-bit-cases zero h = inl refl
-bit-cases (suc zero) h = inr refl
-bit-cases (suc (suc n)) h = absurd (omega arith)
-
 pub one-bit : (n : ℕ) → n < 2 → one (eqb n 1) ≡ n
 one-bit zero h = refl
 one-bit (suc zero) h = refl
@@ -48,62 +38,10 @@ bit-above w k h = rw (div-eq-of-lt h)
 pub bit-none : (k : ℕ) → bitOf 0 k ≡ false
 bit-none k = bit-above 0 k (pow-pos k)
 
--- ---- two words put together
-
-join-shr : (op : Op) (x y k : ℕ) → join op x y / 2 ^ k ≡ join op (x / 2 ^ k) (y / 2 ^ k)
-join-shr And x y k = and-shr x y k
-join-shr Or x y k = or-shr x y k
-join-shr Xor x y k = xor-shr x y k
-
-join-mod : (op : Op) (x y : ℕ) → join op x y % 2 ≡ join op (x % 2) (y % 2)
-join-mod And x y = and-mod x y 1
-join-mod Or x y = or-mod x y 1
-join-mod Xor x y = xor-mod x y 1
-
-pub join-lt : (op : Op) (k x y : ℕ) → x < 2 ^ k → y < 2 ^ k → join op x y < 2 ^ k
-join-lt And k x y = and-lt k x y
-join-lt Or k x y = or-lt k x y
-join-lt Xor k x y = xor-lt k x y
-
-join-bits : (op : Op) (x y : ℕ) → x < 2 → y < 2 → eqb (join op x y) 1 ≡ both op (eqb x 1) (eqb y 1)
-join-bits op (suc (suc x)) y hx hy = absurd (omega arith)
-join-bits op zero (suc (suc y)) hx hy = absurd (omega arith)
-join-bits op (suc zero) (suc (suc y)) hx hy = absurd (omega arith)
-join-bits And zero zero hx hy = refl
-join-bits And zero (suc zero) hx hy = refl
-join-bits And (suc zero) zero hx hy = refl
-join-bits And (suc zero) (suc zero) hx hy = refl
-join-bits Or zero zero hx hy = refl
-join-bits Or zero (suc zero) hx hy = refl
-join-bits Or (suc zero) zero hx hy = refl
-join-bits Or (suc zero) (suc zero) hx hy = refl
-join-bits Xor zero zero hx hy = refl
-join-bits Xor zero (suc zero) hx hy = refl
-join-bits Xor (suc zero) zero hx hy = refl
-join-bits Xor (suc zero) (suc zero) hx hy = refl
-
-pub bit-join : (op : Op) (x y k : ℕ) → bitOf (join op x y) k ≡ both op (bitOf x k) (bitOf y k)
-unfolding bitOf
-bit-join op x y k =
-    ap (λ (n : ℕ). eqb (n % 2) 1) (join-shr op x y k)
-    ∙ ap (λ (n : ℕ). eqb n 1) (join-mod op (x / 2 ^ k) (y / 2 ^ k))
-    ∙ join-bits op (x / 2 ^ k % 2) (y / 2 ^ k % 2) (omega arith) (omega arith)
-
--- ---- counted
+-- ---- put back into a word
 
 pub half-lt : (w k : ℕ) → w < 2 ^ suc k → w / 2 < 2 ^ k
 half-lt w k h = let l : w < 2 ^ k * 2 = rw pow-suc at h in omega arith
-
-pub ones-count : (k w : ℕ) → w < 2 ^ k → ones w ≡ countBelow (bitOf w) k
-unfolding countBelow ones
-ones-count zero w h = ap ones (lt-one h)
-ones-count (suc k) w h =
-    let low : one (bitOf w 0) ≡ w % 2 = ap one (bit-zero w) ∙ one-bit (w % 2) (omega arith) in
-    let rest : ones (w / 2) ≡ countBelow (λ i. bitOf w (1 + i)) k =
-    ones-count k (w / 2) (half-lt w k h) ∙ count-same (bitOf (w / 2)) (λ i. bitOf w (1 + i)) k (λ i l. sym (bit-suc w i)) in
-    omega (arith, ones-step w, low, rest, count-first (bitOf w) k)
-
--- ---- put back into a word
 
 -- words that have the same bits
 pub word-same : (f g : ℕ → Bool) (s t n : ℕ) → ((k : ℕ) → k < n → f (s + k) ≡ g (t + k)) → wordFrom f s n ≡ wordFrom g t n

@@ -1,13 +1,13 @@
--- `bit::ones_of` meets its contract. The loop's invariant: n is the number of ones in the first i words put together, 64 places each.
+-- `bit_words::ones_of` meets its contract. The loop's invariant: n is the number of ones in the first i words put together, 64 places each.
 -- The measure is the number of words left. Assumes nothing.
 use borrow.Author.Needs.{needs}
 use native.Mathlib.Omega.{arith}
 use Prim.Native.Nat.{_-_, _≤_}
 use mathlib.Core.Path.{_≡_}
 use lib.ListN.{length}
-use Rattle.bit.proofs.Vectors.{FirstOnes, ones-none, ones-more, ones-fit}
-use Rattle.bit.proofs.ones_of.Statement.{statement}
-use Rattle.bit.proofs.ones_of.Tie as tie
+use Rattle.bit_words.proofs.Ones.{FirstOnes, ones-none, ones-more, ones-fit}
+use Rattle.bit_words.proofs.ones_of.Statement.{statement}
+use Rattle.bit_words.proofs.ones_of.Tie as tie
 
 abbrev Inv-loop : tie.InvT-loop
 Inv-loop op a b n₀ i₀ n i = (i ≤ length a) × FirstOnes op a b i n

@@ -9,9 +9,9 @@ use borrow.Author.Tests.{eq-eqb, ne-eqb, eqb-true, not-false}
 use Rattle.refusal.specs.declared.Checked.the-variants.{Valid, Refused}
 use Rattle.refusal.proofs.Chains.{refuse-valid}
 use Rattle.refusal.proofs.Dims.{in-range, range-in}
-use Rattle.bit.specs.Bits.{bitAt, wordsFor}
-use Rattle.bit.specs.Calls.{badDims, padded, checkedOf}
-use Rattle.bit.proofs.Vectors.{clear-padded, padded-clear, last-clear, clear-last}
+use Rattle.bits.specs.Bits.{bitAt, wordsFor}
+use Rattle.bits.specs.Calls.{badDims, padded, checkedOf}
+use Rattle.bits.proofs.Vectors.{clear-padded, padded-clear, last-clear, clear-last}
 
 -- what a vector that passed is
 pub record Sound (d : ℕ) (ws : List ℕ) : Type 0 where

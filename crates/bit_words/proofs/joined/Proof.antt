@@ -1,7 +1,7 @@
--- `bit::joined` meets its contract, case by case of the operation. Assumes nothing.
+-- `bit_words::joined` meets its contract, case by case of the operation. Assumes nothing.
 use borrow.Author.Needs.{needs}
-use Rattle.bit.proofs.joined.Statement.{statement}
-use Rattle.bit.proofs.joined.Tie as tie
+use Rattle.bit_words.proofs.joined.Statement.{statement}
+use Rattle.bit_words.proofs.joined.Tie as tie
 
 enum-told : tie.Need-enum-told
 enum-told c = search needs

@@ -1,13 +1,13 @@
--- `bit::check_pair` meets its contract: the refusal of one of the two, or else DIFFER where the dims do. Assumes nothing.
+-- `bits::check_pair` meets its contract: the refusal of one of the two, or else DIFFER where the dims do. Assumes nothing.
 use borrow.Author.Tests.{eq-eqb, ne-eqb}
 use borrow.Author.Needs.{needs}
 use native.Mathlib.Omega.{arith}
 use mathlib.Core.Path.{_≡_, sym, _∙_}
 use Rattle.refusal.specs.declared.Checked.the-variants.{Valid}
 use Rattle.refusal.proofs.Told.{checked-answer}
-use Rattle.bit.specs.Calls.{eachOf}
-use Rattle.bit.proofs.check_pair.Statement.{statement}
-use Rattle.bit.proofs.check_pair.Tie as tie
+use Rattle.bits.specs.Calls.{eachOf}
+use Rattle.bits.proofs.check_pair.Statement.{statement}
+use Rattle.bits.proofs.check_pair.Tie as tie
 
 abbrev start : tie.After-enum-told → tie.Start
 start c = c .before .before .before .before .before

@@ -1,4 +1,4 @@
--- `bit::check` meets its contract: dims, then the number of words, then the last word, whose bits from dims on are the padding. Assumes nothing.
+-- `bits::check` meets its contract: dims, then the number of words, then the last word, whose bits from dims on are the padding. Assumes nothing.
 use borrow.Author.Needs.{needs}
 use native.Mathlib.Omega.{arith}
 use Prim.Native.Nat.{_-_, _≤_}
@@ -6,10 +6,10 @@ use mathlib.Core.Path.{_≡_, sym, _∙_}
 use lib.ListN.{length}
 use Rattle.refusal.proofs.Dims.{some, zero-outside, high-outside}
 use Rattle.refusal.proofs.Told.{checked-answer}
-use Rattle.bit.specs.Bits.{wordsFor}
-use Rattle.bit.proofs.Checks.{refused-dims, refused-length, last-refused, last-valid}
-use Rattle.bit.proofs.check.Statement.{statement}
-use Rattle.bit.proofs.check.Tie as tie
+use Rattle.bits.specs.Bits.{wordsFor}
+use Rattle.bits.proofs.Checks.{refused-dims, refused-length, last-refused, last-valid}
+use Rattle.bits.proofs.check.Statement.{statement}
+use Rattle.bits.proofs.check.Tie as tie
 
 -- where the number of words passed, dims did
 low : (c : tie.Else3) → 1 ≤ c .before .before .before .before .before .args .dims

@@ -1,4 +1,4 @@
--- `bit::combine` meets its contract. The loop's invariant: the first i words are put together in front of what is left of the old output.
+-- `bit_words::combine` meets its contract. The loop's invariant: the first i words are put together in front of what is left of the old output.
 -- The measure is the number of words left. Assumes nothing.
 use borrow.Author.Needs.{needs}
 use native.Mathlib.Omega.{arith}
@@ -6,9 +6,9 @@ use Prim.Native.Nat.{_-_, _≤_}
 use mathlib.Core.Path.{_≡_}
 use lib.ListN.{length, getD}
 use Rattle.places.proofs.Below.{Wrote, wrote-none, wrote-more, wrote-length}
-use Rattle.bit.specs.Bits.{join}
-use Rattle.bit.proofs.combine.Statement.{statement}
-use Rattle.bit.proofs.combine.Tie as tie
+use Rattle.bit_words.specs.Ops.{join}
+use Rattle.bit_words.proofs.combine.Statement.{statement}
+use Rattle.bit_words.proofs.combine.Tie as tie
 
 abbrev Inv-loop : tie.InvT-loop
 Inv-loop op a b out₀ i₀ out i = (i ≤ length a) × Wrote (λ j. join op (getD a j 0) (getD b j 0)) out₀ out i
