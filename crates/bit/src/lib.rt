@@ -1,13 +1,13 @@
 // Counts of the ones of bit vectors, and word-wise combinations. Each public call tests the vectors it
 // is given, the left one first. What a bit vector is stands in `bits`, whose calls are passed on here.
 
-use refusal::Checked;
-use refusal::Written;
 pub use bit_words::Op;
 pub use bits::check;
 pub use bits::check_each;
 pub use bits::check_pair;
 pub use bits::words_for;
+use refusal::Checked;
+use refusal::Written;
 ghost use Rattle.bit_words.specs.declared.Op.the-variants.{And, Or, Xor};
 ghost use Rattle.bit.specs.Calls.{SumsOne, Sums, SumsBoth, Combines};
 

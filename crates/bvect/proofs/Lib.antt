@@ -1,5 +1,4 @@
--- Laws of bit vectors: slices, order, equality and distances.
+-- Laws of bit vectors: slices, order and distances.
 pub mod Slices
-pub mod Orders
-pub mod Equality
+pub mod Compared
 pub mod Counts

@@ -16,7 +16,7 @@ use Rattle.refusal.specs.declared.Ordering.{Ordering}
 use Rattle.refusal.specs.declared.Ordering.the-variants.{Unordered}
 use Rattle.bits.specs.Bits.{bitAt, wordsOf}
 use Rattle.bits.specs.Calls.{badDims, checkedOf, eachOf, pairOf, roomOf}
-use Rattle.bvect.specs.Orders.{sameWords, orderBelow}
+use Rattle.bit_orders.specs.Orders.{sameWords, orderBelow}
 use Rattle.bvect.specs.Distances.{dotOf, hammingOf, jaccardOf}
 
 -- "ceil(dims/64) words of room, as for AND, OR, XOR and zero"; without a vector to test, dims and then room

@@ -1,12 +1,12 @@
--- `bvect::with_bit` meets its contract: OR with a power of two above the word is a sum. Assumes nothing.
+-- `bit_slices::with_bit` meets its contract: OR with a power of two above the word is a sum. Assumes nothing.
 use borrow.Author.Needs.{needs}
 use native.Mathlib.Omega.{arith}
 use Prim.Native.Nat.{_*_, _%_, _^_}
 use mathlib.Core.Path.{_≡_}
 use lib.Bits.{or-shifted-r}
 use lib.Pow.{shl-exact}
-use Rattle.bvect.proofs.with_bit.Statement.{statement}
-use Rattle.bvect.proofs.with_bit.Tie as tie
+use Rattle.bit_slices.proofs.with_bit.Statement.{statement}
+use Rattle.bit_slices.proofs.with_bit.Tie as tie
 
 shl-result : tie.Need-shl-result
 shl-result c = search needs

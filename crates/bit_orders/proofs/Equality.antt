@@ -9,7 +9,7 @@ use lib.Seq.{ext-getD}
 use borrow.Author.Tests.{eq-eqb, eqb-true, not-true, not-false}
 use Rattle.places.specs.Below.{anyBelow}
 use Rattle.places.proofs.Below.{any-false, any-none}
-use Rattle.bvect.specs.Orders.{sameWords}
+use Rattle.bit_orders.specs.Orders.{sameWords}
 
 pub same-lists : (a b : List ℕ) → length a ≡ length b → sameWords a b ≡ true → a ≡ b
 same-lists a b long e =

@@ -1,12 +1,12 @@
--- `bvect::clear` meets its contract. The loop's invariant: the first i words are clear, in front of what is left of the old output.
+-- `bit_slices::clear` meets its contract. The loop's invariant: the first i words are clear, in front of what is left of the old output.
 -- The measure is the number of words left. Assumes nothing.
 use borrow.Author.Needs.{needs}
 use native.Mathlib.Omega.{arith}
 use Prim.Native.Nat.{_-_, _≤_}
 use mathlib.Core.Path.{_≡_, refl}
 use Rattle.places.proofs.Below.{Wrote, wrote-none, wrote-more, wrote-length}
-use Rattle.bvect.proofs.clear.Statement.{statement}
-use Rattle.bvect.proofs.clear.Tie as tie
+use Rattle.bit_slices.proofs.clear.Statement.{statement}
+use Rattle.bit_slices.proofs.clear.Tie as tie
 
 abbrev Inv-loop : tie.InvT-loop
 Inv-loop n out₀ i₀ out i = (i ≤ n) × Wrote (λ j. 0) out₀ out i

@@ -3,7 +3,7 @@ use Prim.Native.Nat.{ℕ, _+_, _-_, _*_, _/_, _%_, _^_, _≤_, _<_}
 use native.Mathlib.Nat.{eq-or-lt-of-le}
 use native.Mathlib.Omega.{arith}
 use mathlib.Core.Bool.{Bool, true, false, false≢true, cond, not}
-use mathlib.Core.List.{List, []}
+use mathlib.Core.List.{List}
 use mathlib.Core.Logic.{⊎-elim}
 use mathlib.Core.Path.{_≡_, refl, sym, ap, _∙_}
 use lib.Bits.{bitXor, xor-lt}
@@ -13,21 +13,16 @@ use lib.ListN.{length, getD}
 use borrow.Author.Tests.{eq-eqb, ne-eqb, eqb-true}
 use Rattle.places.proofs.First.{found, none, before, most, hit}
 use Rattle.places.proofs.Below.{le-or-lt, any-none, any-true}
-use Rattle.refusal.specs.Answers.{orderOf}
-use Rattle.refusal.proofs.Told.{IsOrder, order-answer}
-use Rattle.refusal.specs.declared.Ordering.{Ordering}
-use Rattle.refusal.specs.declared.Ordering.the-variants.{Less, Equal, Greater, Unordered}
+use Rattle.refusal.specs.declared.Ordering.the-variants.{Less, Equal, Greater}
 use Rattle.bits.specs.Bits.{bitOf, bitAt}
-use Rattle.bits.specs.Calls.{eachOf}
 use Rattle.bits.proofs.Pairs.{Pair}
 use Rattle.bits.proofs.Vectors.{bit-at}
 use Rattle.bit_words.specs.Ops.{both}
 use Rattle.bit_words.specs.declared.Op.the-variants.{Xor}
 use Rattle.bit_words.proofs.Joins.{bit-join}
-use Rattle.bit_words.proofs.Lowest.{Lowest, trailing-lowest, xor-some}
-use Rattle.bvect.specs.Calls.{Compares}
-use Rattle.bvect.specs.Orders.{lowest, orderBelow, sameWords}
-use Rattle.bvect.specs.Words.{wordOrder, wordsOrder}
+use Rattle.bit_orders.proofs.Lowest.{Lowest, trailing-lowest, xor-some}
+use Rattle.bit_orders.specs.Orders.{lowest, orderBelow, sameWords}
+use Rattle.bit_orders.specs.Words.{wordOrder, wordsOrder}
 
 same-bits : (b : Bool) → both Xor b b ≡ false
 same-bits true = refl
@@ -66,16 +61,6 @@ module _ (f g : ℕ → Bool) where
       some l =
           let e : differs (lowest f g d) ≡ true = hit differs d 0 (omega arith) in
           order-at m (lowest f g d) (omega arith) e earlier ∙ sym (order-at d (lowest f g d) l e earlier)
-
--- no order is a refusal
-compare-fair : (same : Bool) (f g : ℕ → Bool) (n : ℕ) → IsOrder (cond same (orderBelow f g n) Unordered)
-compare-fair false f g n = refl
-compare-fair true f g n = go (eqb (lowest f g n) n) (f (lowest f g n))
-  where
-    go : (none one : Bool) → IsOrder (cond none Equal (cond one Greater Less))
-    go true one = refl
-    go false true = refl
-    go false false = refl
 
 -- ---- by words
 
@@ -166,8 +151,3 @@ order-dims {d} {a = a} {b} p =
     sym
     (order-rest (bitAt a) (bitAt b) d (64 * length a) (omega (arith, p .left .long))
     (λ k h l. rw (p .left .clear k h, p .right .clear k h)))
-
-pub compares : (d : ℕ) (a : List ℕ) (e : ℕ) (b : List ℕ) {r : Ordering}
-    → r ≡ orderOf (cond (eqb d e) (orderBelow (bitAt a) (bitAt b) d) Unordered) (eachOf d a e b) → Compares d a e b r
-compares d a e b q =
-    order-answer (cond (eqb d e) (orderBelow (bitAt a) (bitAt b) d) Unordered) (compare-fair (eqb d e) (bitAt a) (bitAt b) d) q

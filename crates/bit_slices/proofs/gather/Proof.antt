@@ -1,4 +1,4 @@
--- `bvect::gather` meets its contract. The loop's invariant: the word has the first k bits. The measure is the number of bits left. Assumes nothing.
+-- `bit_slices::gather` meets its contract. The loop's invariant: the word has the first k bits. The measure is the number of bits left. Assumes nothing.
 use borrow.Author.Needs.{needs}
 use native.Mathlib.Numerals.{add-one}
 use native.Mathlib.Omega.{arith}
@@ -6,8 +6,8 @@ use Prim.Native.Nat.{_-_, _≤_}
 use mathlib.Core.Path.{_≡_}
 use Rattle.bits.specs.Bits.{bitAt, cut, wordFrom}
 use Rattle.bits.proofs.Bits.{word-lt}
-use Rattle.bvect.proofs.gather.Statement.{statement}
-use Rattle.bvect.proofs.gather.Tie as tie
+use Rattle.bit_slices.proofs.gather.Statement.{statement}
+use Rattle.bit_slices.proofs.gather.Tie as tie
 
 abbrev Inv-loop : tie.InvT-loop
 Inv-loop words from end word₀ k₀ word k = (k ≤ 64) × (word ≡ wordFrom (cut end (bitAt words)) from k)

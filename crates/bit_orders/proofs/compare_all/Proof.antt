@@ -1,13 +1,13 @@
--- `bvect::compare_all` meets its contract. The loop's invariant: the first i words are the same.
+-- `bit_orders::compare_all` meets its contract. The loop's invariant: the first i words are the same.
 -- The measure is the number of words left. Assumes nothing.
 use borrow.Author.Count.{below-more}
 use borrow.Author.Needs.{needs}
 use native.Mathlib.Omega.{arith}
 use Prim.Native.Nat.{_-_, _≤_}
 use lib.ListN.{length}
-use Rattle.bvect.proofs.Orders.{SameFirst, words-decide, words-equal}
-use Rattle.bvect.proofs.compare_all.Statement.{statement}
-use Rattle.bvect.proofs.compare_all.Tie as tie
+use Rattle.bit_orders.proofs.Orders.{SameFirst, words-decide, words-equal}
+use Rattle.bit_orders.proofs.compare_all.Statement.{statement}
+use Rattle.bit_orders.proofs.compare_all.Tie as tie
 
 abbrev Inv-loop : tie.InvT-loop
 Inv-loop a b i₀ i = (i ≤ length a) × SameFirst a b i

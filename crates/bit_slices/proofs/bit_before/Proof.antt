@@ -1,8 +1,8 @@
--- `bvect::bit_before` meets its contract: a test against the end, then the bit. Assumes nothing.
+-- `bit_slices::bit_before` meets its contract: a test against the end, then the bit. Assumes nothing.
 use borrow.Author.Tests.{lt-ltb, le-ltb}
 use borrow.Author.Needs.{needs}
-use Rattle.bvect.proofs.bit_before.Statement.{statement}
-use Rattle.bvect.proofs.bit_before.Tie as tie
+use Rattle.bit_slices.proofs.bit_before.Statement.{statement}
+use Rattle.bit_slices.proofs.bit_before.Tie as tie
 
 bit-at-requires : tie.Need-bit-at-requires
 bit-at-requires c κs = search needs

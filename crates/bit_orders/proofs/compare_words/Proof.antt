@@ -1,11 +1,11 @@
--- `bvect::compare_words` meets its contract: the trailing zeros of the XOR are the lowest differing bit. Assumes nothing.
+-- `bit_orders::compare_words` meets its contract: the trailing zeros of the XOR are the lowest differing bit. Assumes nothing.
 use native.Mathlib.Omega.{arith}
 use lib.Bits.{bitXor}
 use lib.Count.{trailingZeros}
-use Rattle.bit_words.proofs.Lowest.{Lowest}
-use Rattle.bvect.proofs.Orders.{first-lowest, word-greater, word-less}
-use Rattle.bvect.proofs.compare_words.Statement.{statement}
-use Rattle.bvect.proofs.compare_words.Tie as tie
+use Rattle.bit_orders.proofs.Lowest.{Lowest}
+use Rattle.bit_orders.proofs.Orders.{first-lowest, word-greater, word-less}
+use Rattle.bit_orders.proofs.compare_words.Statement.{statement}
+use Rattle.bit_orders.proofs.compare_words.Tie as tie
 
 -- the lowest differing bit, in the word
 low : (c : tie.Start) → let a = c .args in Lowest 64 (bitXor (a .x) (a .y)) (trailingZeros 64 (bitXor (a .x) (a .y)))

@@ -1,4 +1,4 @@
--- `bvect::gather_all` meets its contract. The loop's invariant: the first j words are gathered, in front of what is left of the old output.
+-- `bit_slices::gather_all` meets its contract. The loop's invariant: the first j words are gathered, in front of what is left of the old output.
 -- The measure is the number of words left. Assumes nothing.
 use borrow.Author.Needs.{needs}
 use native.Mathlib.Omega.{arith}
@@ -6,8 +6,8 @@ use Prim.Native.Nat.{_+_, _-_, _*_, _≤_}
 use mathlib.Core.Path.{_≡_}
 use Rattle.places.proofs.Below.{Wrote, wrote-none, wrote-more, wrote-length}
 use Rattle.bits.specs.Bits.{bitAt, cut, wordFrom}
-use Rattle.bvect.proofs.gather_all.Statement.{statement}
-use Rattle.bvect.proofs.gather_all.Tie as tie
+use Rattle.bit_slices.proofs.gather_all.Statement.{statement}
+use Rattle.bit_slices.proofs.gather_all.Tie as tie
 
 abbrev Inv-loop : tie.InvT-loop
 Inv-loop words start end n out₀ j₀ out j = (j ≤ n) × Wrote (λ i. wordFrom (cut end (bitAt words)) (start + 64 * i) 64) out₀ out j

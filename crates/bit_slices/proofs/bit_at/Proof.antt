@@ -1,9 +1,9 @@
--- `bvect::bit_at` meets its contract: the code reads what the definition says. Assumes nothing.
+-- `bit_slices::bit_at` meets its contract: the code reads what the definition says. Assumes nothing.
 use borrow.Author.Needs.{needs}
 use mathlib.Core.Path.{refl}
 use Rattle.bits.specs.Bits.{bitOf, bitAt}
-use Rattle.bvect.proofs.bit_at.Statement.{statement}
-use Rattle.bvect.proofs.bit_at.Tie as tie
+use Rattle.bit_slices.proofs.bit_at.Statement.{statement}
+use Rattle.bit_slices.proofs.bit_at.Tie as tie
 
 mul-word : tie.Need-mul-word
 mul-word c = search needs
