@@ -1,4 +1,3 @@
--- Laws of bit vectors: slices, order and distances.
+-- Laws of bit vectors: slices and order.
 pub mod Slices
 pub mod Compared
-pub mod Counts

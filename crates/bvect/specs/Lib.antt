@@ -1,3 +1,2 @@
 -- The definitions that the contracts of `bvect` cite.
-pub mod Distances
 pub mod Calls

@@ -1,10 +1,12 @@
 // Bit vectors: a bit vector is its dims and its words. Every call tests the vectors it is given, the
-// left one first; a refusal leaves a lent output as it was.
+// left one first; a refusal leaves a lent output as it was. The distances are passed on.
 
+pub use bit_distances::operator_dot;
+pub use bit_distances::operator_hamming;
+pub use bit_distances::operator_jaccard;
 use refusal::Asked;
 use refusal::Bound;
 use refusal::Checked;
-use refusal::Distance;
 use refusal::Ordering;
 use refusal::Span;
 use refusal::Written;
@@ -12,7 +14,7 @@ ghost use Rattle.refusal.specs.Answers.{Checks};
 ghost use Rattle.bits.specs.Calls.{checkedOf};
 ghost use Rattle.bit_words.specs.declared.Op.the-variants.{And, Or, Xor};
 ghost use Rattle.bit.specs.Calls.{Combines};
-ghost use Rattle.bvect.specs.Calls.{Zeroes, Gets, Dots, Hammings, Jaccards, Cuts, Equals, Compares};
+ghost use Rattle.bvect.specs.Calls.{Zeroes, Gets, Cuts, Equals, Compares};
 
 // Whether `words` is a bit vector of `dims` bits. Refuses with DIMS, LENGTH, PADDING.
 pub fn new_checked(dims: u32, words: &[u64]) -> Checked
@@ -53,40 +55,6 @@ pub fn get(dims: u32, words: &[u64], index: u32) -> Asked
         return Asked::Yes;
     }
     Asked::No
-}
-
-// The negated number of common ones. Refuses as `bit::check_pair` does, and so do the next two.
-pub fn operator_dot(dims_a: u32, a: &[u64], dims_b: u32, b: &[u64]) -> Distance
-    ensures { λ r. ⌜ Dots «dims_a» (now (a .entry)) «dims_b» (now (b .entry)) r ⌝ }
-{
-    match bit::sum_of_and(dims_a, a, dims_b, b) {
-        bit::Count::Ones(n) => Distance::Value(-(n as f32)),
-        bit::Count::Refused(number, place) => Distance::Refused(number, place),
-    }
-}
-
-// The number of differing bits.
-pub fn operator_hamming(dims_a: u32, a: &[u64], dims_b: u32, b: &[u64]) -> Distance
-    ensures { λ r. ⌜ Hammings «dims_a» (now (a .entry)) «dims_b» (now (b .entry)) r ⌝ }
-{
-    match bit::sum_of_xor(dims_a, a, dims_b, b) {
-        bit::Count::Ones(n) => Distance::Value(n as f32),
-        bit::Count::Refused(number, place) => Distance::Refused(number, place),
-    }
-}
-
-// 1.0 - (and / or), each step rounded once. Two vectors without ones give NaN.
-pub fn operator_jaccard(dims_a: u32, a: &[u64], dims_b: u32, b: &[u64]) -> Distance
-    ensures { λ r. ⌜ Jaccards «dims_a» (now (a .entry)) «dims_b» (now (b .entry)) r ⌝ }
-{
-    match bit::sum_of_and_or(dims_a, a, dims_b, b) {
-        bit::Counts::Ones(and, or) => {
-            let common = and as f32;
-            let all = or as f32;
-            Distance::Value(1.0 - common / all)
-        }
-        bit::Counts::Refused(number, place) => Distance::Refused(number, place),
-    }
 }
 
 // Writes a AND b to the front of `out`, and answers its dims and words. Refuses as `bit::check_pair`

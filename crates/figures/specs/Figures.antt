@@ -16,7 +16,7 @@ use Rattle.bits.specs.Bits.{wordsOf}
 use Rattle.bits.specs.Calls.{checkedOf as checkedBits}
 use Rattle.bit_words.specs.Ops.{meets}
 use Rattle.bit_words.specs.declared.Op.the-variants.{And, Or, Xor}
-use Rattle.bvect.specs.Distances.{dotOf, hammingOf, jaccardOf}
+use Rattle.bit_distances.specs.Distances.{dotOf, hammingOf, jaccardOf}
 use Rattle.bvect.specs.Calls.{Compares as ComparesBits}
 use Rattle.sparse.specs.Vectors.{Vector, vector}
 use Rattle.sparse.specs.Calls.{checkedOf}

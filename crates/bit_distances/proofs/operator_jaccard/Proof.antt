@@ -1,9 +1,9 @@
--- `bvect::operator_jaccard` meets its contract: both counts are floats exactly, and the two steps are the definition's. Assumes nothing.
+-- `bit_distances::operator_jaccard` meets its contract: both counts are floats exactly, and the two steps are the definition's. Assumes nothing.
 use borrow.Author.Needs.{needs}
 use Rattle.refusal.proofs.Told.{distance-answer}
-use Rattle.bvect.proofs.Counts.{one-float, both-counted, both-float, not-both-counted}
-use Rattle.bvect.proofs.operator_jaccard.Statement.{statement}
-use Rattle.bvect.proofs.operator_jaccard.Tie as tie
+use Rattle.bit_distances.proofs.Counts.{one-float, both-counted, both-float, not-both-counted}
+use Rattle.bit_distances.proofs.operator_jaccard.Statement.{statement}
+use Rattle.bit_distances.proofs.operator_jaccard.Tie as tie
 
 sum-of-and-or-requires : tie.Need-sum-of-and-or-requires
 sum-of-and-or-requires c κs = search needs

@@ -1,10 +1,10 @@
--- `bvect::operator_hamming` meets its contract: a count of bits is a float exactly. Assumes nothing.
+-- `bit_distances::operator_hamming` meets its contract: a count of bits is a float exactly. Assumes nothing.
 use borrow.Author.Needs.{needs}
 use Rattle.refusal.proofs.Told.{distance-answer}
 use Rattle.bit_words.specs.declared.Op.the-variants.{Xor}
-use Rattle.bvect.proofs.Counts.{counted, counted-float, not-counted}
-use Rattle.bvect.proofs.operator_hamming.Statement.{statement}
-use Rattle.bvect.proofs.operator_hamming.Tie as tie
+use Rattle.bit_distances.proofs.Counts.{counted, counted-float, not-counted}
+use Rattle.bit_distances.proofs.operator_hamming.Statement.{statement}
+use Rattle.bit_distances.proofs.operator_hamming.Tie as tie
 
 sum-of-xor-requires : tie.Need-sum-of-xor-requires
 sum-of-xor-requires c κs = search needs

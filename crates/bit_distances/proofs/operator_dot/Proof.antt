@@ -1,10 +1,10 @@
--- `bvect::operator_dot` meets its contract: a count of bits is a float exactly, and is negated. Assumes nothing.
+-- `bit_distances::operator_dot` meets its contract: a count of bits is a float exactly, and is negated. Assumes nothing.
 use borrow.Author.Needs.{needs}
 use Rattle.refusal.proofs.Told.{distance-answer}
 use Rattle.bit_words.specs.declared.Op.the-variants.{And}
-use Rattle.bvect.proofs.Counts.{counted, counted-float, not-counted}
-use Rattle.bvect.proofs.operator_dot.Statement.{statement}
-use Rattle.bvect.proofs.operator_dot.Tie as tie
+use Rattle.bit_distances.proofs.Counts.{counted, counted-float, not-counted}
+use Rattle.bit_distances.proofs.operator_dot.Statement.{statement}
+use Rattle.bit_distances.proofs.operator_dot.Tie as tie
 
 sum-of-and-requires : tie.Need-sum-of-and-requires
 sum-of-and-requires c κs = search needs
