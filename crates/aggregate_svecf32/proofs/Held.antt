@@ -3,7 +3,7 @@ use Prim.Native.Nat.{ℕ, _+_, _-_, _≤_}
 use native.Mathlib.Omega.{arith}
 use lib.ListN.{length}
 use Rattle.sparse.specs.Vectors.{Vector, vector}
-use Rattle.sparse.specs.Walk.{Sound}
+use Rattle.sparse.specs.Sound.{Sound}
 use Rattle.regions.specs.Regions.{Pair, part}
 use Rattle.aggregate_svecf32.specs.declared.Header.{Header}
 use Rattle.aggregate_svecf32.proofs.Consistent.{Sure, held-cut}

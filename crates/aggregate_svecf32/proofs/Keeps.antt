@@ -13,7 +13,7 @@ use Rattle.refusal.specs.declared.Checked.the-variants.{Valid, Refused}
 use Rattle.refusal.proofs.Chains.{next-valid, refuse-valid}
 use Rattle.sparse.specs.Vectors.{Vector, vector, size}
 use Rattle.sparse.specs.Calls.{checkedOf}
-use Rattle.sparse.specs.Walk.{Sound}
+use Rattle.sparse.specs.Sound.{Sound}
 use Rattle.sparse.proofs.Checks.{sound, size-most}
 use Rattle.merges.specs.Algebra.{joins}
 use Rattle.merges.specs.declared.Op.the-variants.{Add}

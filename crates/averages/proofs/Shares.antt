@@ -12,13 +12,15 @@ use Rattle.refusal.specs.declared.Checked.the-variants.{Valid}
 use Rattle.sparse.specs.Cells.{isZero, keep}
 use Rattle.sparse.specs.Vectors.{Vector, vector, size, at}
 use Rattle.sparse.specs.Calls.{checkedOf}
-use Rattle.sparse.specs.Walk.{Turned, Put, Sound}
+use Rattle.sparse.specs.Sound.{Sound}
 use Rattle.sparse.specs.declared.Cell.{Cell}
 use Rattle.sparse.specs.declared.Cell.the-variants.{Empty, Full}
-use Rattle.sparse.proofs.Entries.{as-many, put-most, Written, written-none, written-empty, written-lengths, written-more}
+use Rattle.sparse.proofs.Entries.{as-many}
 use Rattle.sparse.proofs.Meaning.{keep-nonzero, at-below, vector-valid}
-use Rattle.sparse.proofs.Turns.{to-left}
-use Rattle.sparse.proofs.Walk.{Quiet, Going, going-start, going-more, going-end, left-cell, place-below}
+use Rattle.walks.specs.Walk.{Turned, Put}
+use Rattle.walks.proofs.Stores.{put-most, Written, written-none, written-empty, written-lengths, written-more}
+use Rattle.walks.proofs.Turns.{to-left}
+use Rattle.walks.proofs.Walk.{Quiet, Going, going-start, going-more, going-end, left-cell, place-below}
 use Rattle.averages.specs.Averages.{over, shared}
 use Rattle.averages.specs.Loops.{Divides, Divided}
 

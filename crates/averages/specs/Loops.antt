@@ -5,7 +5,7 @@ use mathlib.Core.Path.{_≡_}
 use lib.ListN.{length, drop}
 use lib.Ieee.{Float}
 use Rattle.sparse.specs.Vectors.{Vector, size}
-use Rattle.sparse.specs.Walk.{Sound}
+use Rattle.sparse.specs.Sound.{Sound}
 
 -- a vector that passed, a count that is a float exactly, and room for the vector's entries
 pub record Divides (v : Vector) (count : ℕ) (oi : List ℕ) (ov : List Float) : Type 0 where

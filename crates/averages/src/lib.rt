@@ -22,8 +22,8 @@ pub fn divide(
     let mut n: usize = 0;
     let mut p: usize = 0;
     while p < indexes.len() {
-        let z = sparse::kept(values[p] / by);
-        n = sparse::put(oi, ov, n, indexes[p], z);
+        let z = walks::kept(values[p] / by);
+        n = walks::put(oi, ov, n, indexes[p], z);
         p += 1;
     }
     n

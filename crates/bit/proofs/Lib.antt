@@ -1,8 +1,3 @@
--- Laws of bits and words.
-pub mod Bits
-pub mod Lowest
-pub mod Vectors
-pub mod Checks
+-- Laws of counts, and of two vectors put together.
 pub mod Pairs
 pub mod Counted
-pub mod Meaning

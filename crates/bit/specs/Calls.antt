@@ -1,53 +1,21 @@
--- What the calls on bit vectors refuse, in their order, and what they answer.
-use Prim.Native.Nat.{ℕ, _-_, _*_}
-use mathlib.Core.Bool.{Bool, not, _&&_}
+-- What counts and combinations of bit vectors answer.
+use Prim.Native.Nat.{ℕ}
 use mathlib.Core.List.{List, [], _∷_}
-use lib.Dec.{leb, ltb, eqb}
 use lib.ListN.{length}
-use Rattle.places.specs.Below.{anyBelow, countBelow}
-use Rattle.refusal.specs.Numbers.{DIMS, LENGTH, PADDING, DIFFER, ROOM}
-use Rattle.refusal.specs.Dims.{outside}
-use Rattle.refusal.specs.Answers.{refuse, next, Says, says, tells, Answers, Writes}
+use Rattle.places.specs.Below.{countBelow}
+use Rattle.refusal.specs.Answers.{next, Says, says, tells, Answers, Writes}
 use Rattle.refusal.specs.declared.Checked.{Checked}
 use Rattle.refusal.specs.declared.Checked.the-variants.{Valid, Refused}
 use Rattle.refusal.specs.declared.Written.{Written}
-use Rattle.bit.specs.Bits.{bitAt, meets, wordsFor, wordsOf}
-use Rattle.bit.specs.declared.Op.{Op}
-use Rattle.bit.specs.declared.Op.the-variants.{And, Or}
+use Rattle.bits.specs.Bits.{bitAt, wordsOf}
+use Rattle.bits.specs.Calls.{checkedOf, pairOf, roomOf}
+use Rattle.bit_words.specs.Ops.{meets}
+use Rattle.bit_words.specs.declared.Op.{Op}
+use Rattle.bit_words.specs.declared.Op.the-variants.{And, Or}
 use Rattle.bit.specs.declared.Count.{Count}
 use Rattle.bit.specs.declared.Count.the-variants.{Ones, Refused as NoCount}
 use Rattle.bit.specs.declared.Counts.{Counts}
 use Rattle.bit.specs.declared.Counts.the-variants.{Ones as Both, Refused as NoCounts}
-
--- "dims in 1..=65,535" does not hold
-abbrev pub badDims : ℕ → Bool
-badDims = outside 65535
-
--- "a padding bit is set": some place at or above dims that the words have holds a one. The number of words is tested first, so that
--- such a place is in the last word
-unfoldable pub padded : ℕ → List ℕ → Bool
-padded d ws = anyBelow (λ i. leb d i && bitAt ws i) (64 * length ws)
-
--- "Bits: dims in 1..=65,535; exactly ceil(dims/64) words; bits of the last word at and above dims mod 64 are zero when dims mod 64
--- isn't 0"; PADDING carries the last word
-unfoldable pub checkedOf : ℕ → List ℕ → Checked
-checkedOf d ws =
-    refuse (badDims d) DIMS 0
-    (refuse (not (eqb (length ws) (wordsFor d))) LENGTH 0
-    (refuse (padded d ws) PADDING (length ws - 1)
-    Valid))
-
--- "Left vector first (1 to 6), then right"
-abbrev pub eachOf : ℕ → List ℕ → ℕ → List ℕ → Checked
-eachOf d a e b = next (checkedOf d a) (checkedOf e b)
-
--- "then 7"
-abbrev pub pairOf : ℕ → List ℕ → ℕ → List ℕ → Checked
-pairOf d a e b = next (eachOf d a e b) (refuse (not (eqb d e)) DIFFER 0 Valid)
-
--- "output .. too short": an output of `room` words does not hold a vector of d bits; carried are the words needed
-abbrev pub roomOf : ℕ → ℕ → Checked
-roomOf d room = refuse (ltb room (wordsFor d)) ROOM (wordsFor d) Valid
 
 -- ---- the answers of counts
 

@@ -1,5 +1,3 @@
--- Laws of bit vectors: slices, order, equality and distances.
+-- Laws of bit vectors: slices and order.
 pub mod Slices
-pub mod Orders
-pub mod Equality
-pub mod Counts
+pub mod Compared

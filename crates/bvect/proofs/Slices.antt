@@ -18,8 +18,8 @@ use Rattle.refusal.specs.declared.Checked.the-variants.{Valid}
 use Rattle.refusal.specs.declared.Written.the-variants.{Done}
 use Rattle.refusal.proofs.Spans.{Part}
 use Rattle.refusal.proofs.Told.{done-writes}
-use Rattle.bit.specs.Bits.{bitAt, cut, wordFrom, wordsFor, wordsOf}
-use Rattle.bit.proofs.Bits.{word-same, word-clear}
+use Rattle.bits.specs.Bits.{bitAt, cut, wordFrom, wordsFor, wordsOf}
+use Rattle.bits.proofs.Bits.{word-same, word-clear}
 
 pub words-none : (d : ℕ) → listBelow (λ j. 0) (wordsFor d) ≡ wordsOf d (λ i. false)
 words-none d =

@@ -5,19 +5,18 @@ use mathlib.Core.List.{List}
 use lib.Dec.{leb, eqb}
 use lib.ListN.{length}
 use Rattle.refusal.specs.Numbers.{DIMS, INDEX, BOUNDS}
-use Rattle.refusal.specs.Answers.{refuse, next, Measures, Asks, Orders, Writes}
+use Rattle.refusal.specs.Answers.{refuse, next, Asks, Orders, Writes}
 use Rattle.refusal.specs.Bounds.{startOf, endOf, badBounds}
 use Rattle.refusal.specs.declared.Bound.{Bound}
 use Rattle.refusal.specs.declared.Checked.the-variants.{Valid}
 use Rattle.refusal.specs.declared.Written.{Written}
 use Rattle.refusal.specs.declared.Asked.{Asked}
-use Rattle.refusal.specs.declared.Distance.{Distance}
 use Rattle.refusal.specs.declared.Ordering.{Ordering}
 use Rattle.refusal.specs.declared.Ordering.the-variants.{Unordered}
-use Rattle.bit.specs.Bits.{bitAt, wordsOf}
-use Rattle.bit.specs.Calls.{badDims, checkedOf, eachOf, pairOf, roomOf}
-use Rattle.bvect.specs.Orders.{sameWords, orderBelow}
-use Rattle.bvect.specs.Distances.{dotOf, hammingOf, jaccardOf}
+use Rattle.bits.specs.Bits.{bitAt, wordsOf}
+use Rattle.bits.specs.Calls.{badDims, checkedOf, eachOf, roomOf}
+use Rattle.bit_orders.specs.Orders.{sameWords, orderBelow}
+pub use Rattle.bit_distances.specs.Calls.{Dots, Hammings, Jaccards}
 
 -- "ceil(dims/64) words of room, as for AND, OR, XOR and zero"; without a vector to test, dims and then room
 abbrev pub Zeroes : ℕ → List ℕ → Written → List ℕ → Type 0
@@ -26,16 +25,6 @@ Zeroes d old r left = Writes (refuse (badDims d) DIMS 0 (roomOf d (length old)))
 -- "`get` tests its index after the vector", and carries "the index asked"
 abbrev pub Gets : ℕ → List ℕ → ℕ → Asked → Type 0
 Gets d ws i = Asks (bitAt ws i) (next (checkedOf d ws) (refuse (leb d i) INDEX i Valid))
-
--- the three distances, each after the tests of two vectors
-abbrev pub Dots : ℕ → List ℕ → ℕ → List ℕ → Distance → Type 0
-Dots d a e b = Measures (dotOf d a b) (pairOf d a e b)
-
-abbrev pub Hammings : ℕ → List ℕ → ℕ → List ℕ → Distance → Type 0
-Hammings d a e b = Measures (hammingOf d a b) (pairOf d a e b)
-
-abbrev pub Jaccards : ℕ → List ℕ → ℕ → List ℕ → Distance → Type 0
-Jaccards d a e b = Measures (jaccardOf d a b) (pairOf d a e b)
 
 -- "The slice has dims end - start"; "Bits likewise, with clear padding and ceil(dims/64) words of room"
 abbrev pub Cuts : ℕ → List ℕ → Bound → Bound → List ℕ → Written → List ℕ → Type 0

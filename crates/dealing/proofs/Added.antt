@@ -15,7 +15,7 @@ use Rattle.refusal.specs.declared.Checked.the-variants.{Valid}
 use Rattle.sparse.specs.Vectors.{Vector, vector, at}
 use Rattle.sparse.specs.Calls.{checkedOf}
 use Rattle.sparse.specs.Numbers.{isWhole, numberAt}
-use Rattle.sparse.specs.Walk.{Sound}
+use Rattle.sparse.specs.Sound.{Sound}
 use Rattle.sparse.proofs.Checks.{sound}
 use Rattle.sparse.proofs.Entries.{entries-same}
 use Rattle.sparse.proofs.Slices.{rebuilt}

@@ -15,7 +15,7 @@ use Rattle.refusal.specs.declared.Checked.{Checked}
 use Rattle.refusal.specs.declared.Checked.the-variants.{Valid, Refused}
 use Rattle.sparse.specs.Vectors.{Vector, size}
 use Rattle.sparse.specs.Calls.{badDims, falls, tooHigh, zeroAt, checkedOf}
-use Rattle.sparse.specs.Walk.{Sound}
+use Rattle.sparse.specs.Sound.{Sound}
 use Rattle.sparse.proofs.Checks.{sound, size-most}
 use Rattle.regions.specs.Capacity.{capacityFor}
 use Rattle.regions.specs.Regions.{Pair, inside}

@@ -18,7 +18,7 @@ use Rattle.whole.proofs.Numbers.{integral-holds, zero32}
 use Rattle.whole.proofs.Folds.{sum-append, weight-append}
 use Rattle.sparse.specs.Cells.{isZero}
 use Rattle.sparse.specs.Vectors.{Vector, at}
-use Rattle.sparse.specs.Walk.{Sound}
+use Rattle.sparse.specs.Sound.{Sound}
 use Rattle.sparse.specs.Numbers.{numberAt}
 use Rattle.sparse.specs.declared.Cell.{Cell}
 use Rattle.sparse.specs.declared.Cell.the-variants.{Empty, Full}

@@ -4,8 +4,9 @@
 
 ghost use mathlib.Core.List.{[], _∷_};
 ghost use Rattle.refusal.specs.Answers.{gives, says, checkedSays, distanceSays, writtenSays, askedSays, orderSays, Checks};
-ghost use Rattle.bit.specs.Calls.{checkedOf, Combines};
-ghost use Rattle.bit.specs.declared.Op.the-variants.{And, Or, Xor};
+ghost use Rattle.bits.specs.Calls.{checkedOf};
+ghost use Rattle.bit_words.specs.declared.Op.the-variants.{And, Or, Xor};
+ghost use Rattle.bit.specs.Calls.{Combines};
 ghost use Rattle.bvect.specs.Calls.{Zeroes, Gets, Dots, Hammings, Jaccards, Cuts, Equals, Compares};
 ghost use Rattle.exports_answers.specs.Answers.{Tells, heard};
 ghost use Rattle.exports_answers.specs.Bounds.{startBound, endBound};

@@ -3,8 +3,8 @@ use mathlib.Core.Path.{refl}
 use lib.Ieee as Ieee
 use Rattle.places.specs.Below.{countBelow, anyBelow, listBelow}
 use Rattle.places.specs.Search.{firstFrom}
-use Rattle.bit.specs.Bits.{bitAt, wordFrom}
-use Rattle.bit.specs.Calls.{padded, checkedOf as checkedBits}
+use Rattle.bits.specs.Bits.{bitAt, wordFrom}
+use Rattle.bits.specs.Calls.{padded, checkedOf as checkedBits}
 use Rattle.sparse.specs.Cells.{look, indexesBelow, valuesBelow}
 use Rattle.sparse.specs.Calls.{checkedOf}
 use Rattle.regions.specs.Capacity.{capacityFor}

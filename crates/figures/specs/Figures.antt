@@ -12,10 +12,11 @@ use Rattle.refusal.specs.declared.Bound.the-variants.{Included, Excluded, Unbou
 use Rattle.refusal.specs.declared.Checked.the-variants.{Valid, Refused}
 use Rattle.refusal.specs.declared.Written.the-variants.{Done, Refused as NotWritten}
 use Rattle.refusal.specs.declared.Ordering.the-variants.{Less, Greater}
-use Rattle.bit.specs.Bits.{meets, wordsOf}
-use Rattle.bit.specs.Calls.{checkedOf as checkedBits}
-use Rattle.bit.specs.declared.Op.the-variants.{And, Or, Xor}
-use Rattle.bvect.specs.Distances.{dotOf, hammingOf, jaccardOf}
+use Rattle.bits.specs.Bits.{wordsOf}
+use Rattle.bits.specs.Calls.{checkedOf as checkedBits}
+use Rattle.bit_words.specs.Ops.{meets}
+use Rattle.bit_words.specs.declared.Op.the-variants.{And, Or, Xor}
+use Rattle.bit_distances.specs.Distances.{dotOf, hammingOf, jaccardOf}
 use Rattle.bvect.specs.Calls.{Compares as ComparesBits}
 use Rattle.sparse.specs.Vectors.{Vector, vector}
 use Rattle.sparse.specs.Calls.{checkedOf}

@@ -3,11 +3,11 @@ use Prim.Native.Nat.{ℕ, _+_, _≤_}
 use mathlib.Core.Path.{_≡_, refl, sym, ap, ap₂, _∙_}
 use Rattle.sparse.specs.Cells.{foldBelow}
 use Rattle.sparse.specs.Vectors.{Vector, size, at}
-use Rattle.sparse.specs.Walk.{Turned}
 use Rattle.sparse.specs.declared.Cell.{Cell}
 use Rattle.sparse.specs.declared.Cell.the-variants.{Empty}
-use Rattle.sparse.specs.declared.Turn.{Turn}
-use Rattle.sparse.proofs.Walk.{Quiet, Going, going-start, going-more, going-end, left-cell, right-cell, place-below}
+use Rattle.walks.specs.Walk.{Turned}
+use Rattle.walks.specs.declared.Turn.{Turn}
+use Rattle.walks.proofs.Walk.{Quiet, Going, going-start, going-more, going-end, left-cell, right-cell, place-below}
 use Rattle.folds.specs.Loops.{Ready}
 
 -- the sum so far is that of the places below the one where the walk stands

@@ -84,7 +84,7 @@ fn sum_of(kind: Kind, dims: u32, ia: &[u32], va: &[f32], ib: &[u32], vb: &[f32])
     let mut q: usize = 0;
     let mut acc: f32 = 0.0;
     while p + q < ia.len() + ib.len() {
-        let t = sparse::one_turn(ia, va, p, ib, vb, q);
+        let t = walks::one_turn(ia, va, p, ib, vb, q);
         let x = t.x;
         let y = t.y;
         acc = add_place(kind, acc, x, y);
@@ -164,7 +164,7 @@ fn three_of(dims: u32, ia: &[u32], va: &[f32], ib: &[u32], vb: &[f32]) -> Three
         y2: 0.0,
     };
     while p + q < ia.len() + ib.len() {
-        let t = sparse::one_turn(ia, va, p, ib, vb, q);
+        let t = walks::one_turn(ia, va, p, ib, vb, q);
         let x = t.x;
         let y = t.y;
         sums = add_three(sums, x, y);

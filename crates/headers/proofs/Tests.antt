@@ -11,7 +11,7 @@ use Rattle.refusal.specs.declared.Checked.the-variants.{Valid, Refused}
 use Rattle.refusal.proofs.Dims.{in-range}
 use Rattle.sparse.specs.Calls.{badDims, checkedOf}
 use Rattle.sparse.specs.Vectors.{Vector, vector}
-use Rattle.sparse.specs.Walk.{Sound}
+use Rattle.sparse.specs.Sound.{Sound}
 use Rattle.sparse.proofs.Checks.{sound, valid}
 use Rattle.regions.specs.Capacity.{isCapacity}
 use Rattle.regions.specs.Regions.{Pair, part}

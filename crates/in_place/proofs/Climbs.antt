@@ -13,12 +13,14 @@ use Rattle.places.specs.Below.{countBelow}
 use Rattle.places.proofs.Below.{le-or-lt}
 use Rattle.sparse.specs.Cells.{indexesBelow, valuesBelow}
 use Rattle.sparse.specs.Vectors.{Vector, vector, size, at, inUnion}
-use Rattle.sparse.specs.Walk.{Rising, Split, Sound, Taken, Standing, Turned}
+use Rattle.sparse.specs.Sound.{Rising, Split, Sound}
 use Rattle.sparse.specs.declared.Cell.{Cell}
-use Rattle.sparse.specs.declared.Turn.{Turn}
 use Rattle.sparse.proofs.Checks.{size-most}
-use Rattle.sparse.proofs.Entries.{entries-most, as-many, written-lengths}
-use Rattle.sparse.proofs.Walk.{Going}
+use Rattle.sparse.proofs.Entries.{entries-most, as-many}
+use Rattle.walks.specs.Walk.{Taken, Standing, Turned}
+use Rattle.walks.specs.declared.Turn.{Turn}
+use Rattle.walks.proofs.Stores.{written-lengths}
+use Rattle.walks.proofs.Walk.{Going}
 use Rattle.merges.specs.Algebra.{joins}
 use Rattle.merges.specs.declared.Op.the-variants.{Add}
 use Rattle.merges.proofs.Made.{joinAt, Made, Merging, merging-more, merging-end}

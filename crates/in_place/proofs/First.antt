@@ -14,13 +14,14 @@ use Rattle.places.specs.Below.{one, countBelow}
 use Rattle.places.proofs.Below.{le-or-lt, count-zero, count-rest, count-same}
 use Rattle.sparse.specs.Cells.{full, look, indexOf, indexesBelow}
 use Rattle.sparse.specs.Vectors.{Vector, vector, size, at, inUnion}
-use Rattle.sparse.specs.Walk.{Split, Sound}
+use Rattle.sparse.specs.Sound.{Split, Sound}
 use Rattle.sparse.specs.declared.Cell.{Cell}
 use Rattle.sparse.specs.declared.Cell.the-variants.{Empty, Full}
-use Rattle.sparse.proofs.Entries.{Written, entries-same}
+use Rattle.sparse.proofs.Entries.{entries-same}
 use Rattle.sparse.proofs.Look.{look-gap, split-start, split-on}
 use Rattle.sparse.proofs.Slices.{front, rebuilt}
-use Rattle.sparse.proofs.Walk.{kept-up}
+use Rattle.walks.proofs.Stores.{Written}
+use Rattle.walks.proofs.Walk.{kept-up}
 use Rattle.merges.specs.Algebra.{added}
 use Rattle.merges.specs.declared.Op.the-variants.{Add}
 use Rattle.merges.proofs.Made.{joinAt}

@@ -9,10 +9,10 @@ use mathlib.Core.Path.{_≡_, sym, ap, _∙_}
 use lib.ListN.{length, getD, take, drop, length-drop}
 use lib.Seq.{getD-drop, drop-drop, drop-append-add, length-take-le, take-nil}
 use lib.Ieee.{Float, nan}
-use Rattle.sparse.specs.Walk.{turn, Taken, Turned}
 use Rattle.sparse.specs.declared.Cell.{Cell}
 use Rattle.sparse.specs.declared.Cell.the-variants.{Full}
-use Rattle.sparse.specs.declared.Turn.{Turn}
+use Rattle.walks.specs.Walk.{turn, Taken, Turned}
+use Rattle.walks.specs.declared.Turn.{Turn}
 use Rattle.regions.specs.Regions.{part}
 use Rattle.in_place.specs.Loops.{around}
 

@@ -13,9 +13,9 @@ use lib.Seq.{getD-take, getD-drop}
 use lib.Ieee.{Float, nan}
 use borrow.Author.Tests.{ltb-true, ltb-false, eqb-false, not-true}
 use Rattle.places.proofs.Below.{and-true}
-use Rattle.sparse.specs.Walk.{turn}
 use Rattle.sparse.specs.declared.Cell.the-variants.{Empty, Full}
-use Rattle.sparse.proofs.Turns.{to-left, to-right}
+use Rattle.walks.specs.Walk.{turn}
+use Rattle.walks.proofs.Turns.{to-left, to-right}
 use Rattle.regions.specs.Regions.{part}
 use Rattle.regions.proofs.Stands.{part-length}
 use Rattle.in_place.specs.Loops.{parted, Steady, Stepped}

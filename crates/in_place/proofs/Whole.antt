@@ -7,7 +7,7 @@ use lib.ListN.{length, take, drop}
 use lib.Seq.{length-take-le}
 use lib.Ieee.{Float}
 use Rattle.sparse.specs.Vectors.{Vector, vector}
-use Rattle.sparse.specs.Walk.{Split}
+use Rattle.sparse.specs.Sound.{Split}
 use Rattle.merges.specs.Algebra.{joins}
 use Rattle.merges.specs.declared.Both.{Both}
 use Rattle.merges.specs.declared.Op.the-variants.{Add}

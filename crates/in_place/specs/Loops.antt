@@ -9,8 +9,9 @@ use lib.Dec.{ltb, eqb}
 use lib.ListN.{length, getD, take, drop}
 use lib.Ieee.{Float}
 use Rattle.sparse.specs.Vectors.{Vector, size}
-use Rattle.sparse.specs.Walk.{Standing, Turned, Put, Split, Sound}
-use Rattle.sparse.specs.declared.Turn.{Turn}
+use Rattle.sparse.specs.Sound.{Split, Sound}
+use Rattle.walks.specs.Walk.{Standing, Turned, Put}
+use Rattle.walks.specs.declared.Turn.{Turn}
 use Rattle.merges.specs.Algebra.{added}
 use Rattle.merges.specs.declared.Both.{Both}
 use Rattle.regions.specs.Regions.{part, Stands}

@@ -82,11 +82,11 @@ fn plain_step(
     requires { ⌜ Steady (now si) (now sv) at cap n (now ib) (now vb) q ⌝ }
     ensures { λ r. ⌜ Stepped (now (si .entry)) (now (sv .entry)) at cap n (now (ib .entry)) (now (vb .entry)) q r (now (si .exit)) (now (sv .exit)) ⌝ }
 {
-    let t = sparse::one_turn(&si[at..cap], &sv[at..cap], 0, ib, vb, q);
+    let t = walks::one_turn(&si[at..cap], &sv[at..cap], 0, ib, vb, q);
     let x = t.x;
     let y = t.y;
     let z = merges::add_cells(x, y);
-    let next = sparse::put(si, sv, n, t.place, z);
+    let next = walks::put(si, sv, n, t.place, z);
     Step {
         taken: t.p,
         q: t.q,
@@ -223,7 +223,7 @@ pub fn merge_in_place(
     ensures { λ r. ⌜ Grown (joins Add (vector dims (take len (now (si .entry))) (take len (now (sv .entry)))) (vector dims (now (ib .entry)) (now (vb .entry)))) (rowTurns (vector dims (take len (now (si .entry))) (take len (now (sv .entry)))) (vector dims (now (ib .entry)) (now (vb .entry)))) cap (now (si .entry)) (now (sv .entry)) r (now (si .exit)) (now (sv .exit)) ⌝ }
 {
     let first = first_index(dims, ib);
-    let low = sparse::partition_point(&si[0..len], first);
+    let low = walks::partition_point(&si[0..len], first);
     let gap = cap - len;
     shift(si, sv, low, len, gap);
     merge_up(dims, si, sv, low, gap, cap, ib, vb)

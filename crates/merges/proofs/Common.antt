@@ -12,13 +12,14 @@ use lib.Ieee.{Float}
 use borrow.Author.Tests.{eq-eqb, ne-eqb}
 use Rattle.places.proofs.Below.{le-or-lt}
 use Rattle.sparse.specs.Vectors.{Vector, size, at}
-use Rattle.sparse.specs.Walk.{Taken, Turned, Put, putCount, Split, Sound}
+use Rattle.sparse.specs.Sound.{Split, Sound}
 use Rattle.sparse.specs.declared.Cell.{Cell}
 use Rattle.sparse.specs.declared.Cell.the-variants.{Empty, Full}
-use Rattle.sparse.specs.declared.Turn.{Turn}
 use Rattle.sparse.proofs.Look.{look-end}
-use Rattle.sparse.proofs.Entries.{put-most, Written, written-empty, written-lengths}
-use Rattle.sparse.proofs.Walk.{Going, kept-up, taken-next}
+use Rattle.walks.specs.Walk.{Taken, Turned, Put, putCount}
+use Rattle.walks.specs.declared.Turn.{Turn}
+use Rattle.walks.proofs.Stores.{put-most, Written, written-empty, written-lengths}
+use Rattle.walks.proofs.Walk.{Going, kept-up, taken-next}
 use Rattle.merges.specs.Algebra.{multiplied, joins, commonEnd, commonTurns}
 use Rattle.merges.specs.Loops.{Ready, Fills}
 use Rattle.merges.specs.declared.Op.the-variants.{Mul}

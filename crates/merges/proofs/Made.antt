@@ -9,12 +9,13 @@ use lib.Ieee.{Float}
 use Rattle.places.specs.Below.{countBelow}
 use Rattle.places.proofs.Below.{count-none, count-zero, count-hit}
 use Rattle.sparse.specs.Vectors.{Vector, size, at, vectorOf, inUnion}
-use Rattle.sparse.specs.Walk.{Turned, Put, Sound}
+use Rattle.sparse.specs.Sound.{Sound}
 use Rattle.sparse.specs.declared.Cell.{Cell}
 use Rattle.sparse.specs.declared.Cell.the-variants.{Empty}
-use Rattle.sparse.specs.declared.Turn.{Turn}
-use Rattle.sparse.proofs.Entries.{put-most, Written, written-none, written-empty, written-lengths, written-more}
-use Rattle.sparse.proofs.Walk.{Quiet, Going, passed, going-start, going-more, going-end, left-cell, right-cell, in-union, place-below}
+use Rattle.walks.specs.Walk.{Turned, Put}
+use Rattle.walks.specs.declared.Turn.{Turn}
+use Rattle.walks.proofs.Stores.{put-most, Written, written-none, written-empty, written-lengths, written-more}
+use Rattle.walks.proofs.Walk.{Quiet, Going, passed, going-start, going-more, going-end, left-cell, right-cell, in-union, place-below}
 use Rattle.merges.specs.Algebra.{joined, joins, unionTurns}
 use Rattle.merges.specs.Loops.{Ready, Fills}
 use Rattle.merges.specs.declared.Op.{Op}

@@ -9,7 +9,7 @@ use Rattle.refusal.specs.declared.Checked.the-variants.{Valid}
 use Rattle.sparse.specs.Cells.{isZero}
 use Rattle.sparse.specs.Vectors.{Vector, at}
 use Rattle.sparse.specs.Calls.{checkedOf}
-use Rattle.sparse.specs.Walk.{Sound}
+use Rattle.sparse.specs.Sound.{Sound}
 use Rattle.sparse.specs.declared.Cell.{Cell}
 use Rattle.sparse.specs.declared.Cell.the-variants.{Empty, Full}
 use Rattle.sparse.proofs.Meaning.{keep-nonzero, at-below, vector-valid, at-nonzero}

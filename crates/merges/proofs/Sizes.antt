@@ -7,7 +7,7 @@ use lib.ListN.{length, length-append}
 use lib.Ieee.{Float, binary32, add, sub, mul}
 use Rattle.sparse.specs.Cells.{isZero, keep, indexOf, indexesBelow}
 use Rattle.sparse.specs.Vectors.{Vector, size, at}
-use Rattle.sparse.specs.Walk.{Sound}
+use Rattle.sparse.specs.Sound.{Sound}
 use Rattle.sparse.specs.declared.Cell.{Cell}
 use Rattle.sparse.specs.declared.Cell.the-variants.{Empty, Full}
 use Rattle.sparse.proofs.Entries.{entries-most}

@@ -5,7 +5,7 @@ use mathlib.Core.Path.{_≡_}
 use lib.ListN.{length, drop}
 use lib.Ieee.{Float}
 use Rattle.sparse.specs.Vectors.{Vector, size}
-use Rattle.sparse.specs.Walk.{Sound}
+use Rattle.sparse.specs.Sound.{Sound}
 use Rattle.merges.specs.declared.Both.{Both}
 
 -- two vectors of equal dims that passed, and room for n entries

@@ -26,7 +26,7 @@ pub fn add_cells(x: Cell, y: Cell) -> Cell
 {
     match x {
         Cell::Full(a) => match y {
-            Cell::Full(b) => sparse::kept(a + b),
+            Cell::Full(b) => walks::kept(a + b),
             Cell::Empty => Cell::Full(a),
         },
         Cell::Empty => y,
@@ -39,7 +39,7 @@ fn sub_cells(x: Cell, y: Cell) -> Cell
 {
     match x {
         Cell::Full(a) => match y {
-            Cell::Full(b) => sparse::kept(a - b),
+            Cell::Full(b) => walks::kept(a - b),
             Cell::Empty => Cell::Full(a),
         },
         Cell::Empty => match y {
@@ -55,7 +55,7 @@ fn mul_cells(x: Cell, y: Cell) -> Cell
 {
     match x {
         Cell::Full(a) => match y {
-            Cell::Full(b) => sparse::kept(a * b),
+            Cell::Full(b) => walks::kept(a * b),
             Cell::Empty => Cell::Empty,
         },
         Cell::Empty => Cell::Empty,
@@ -97,11 +97,11 @@ fn merge(
     let mut n: usize = 0;
     let mut turns: usize = 0;
     while p + q < ia.len() + ib.len() {
-        let t = sparse::one_turn(ia, va, p, ib, vb, q);
+        let t = walks::one_turn(ia, va, p, ib, vb, q);
         let x = t.x;
         let y = t.y;
         let z = join_cells(op, x, y);
-        n = sparse::put(oi, ov, n, t.place, z);
+        n = walks::put(oi, ov, n, t.place, z);
         p = t.p;
         q = t.q;
         turns += 1;
@@ -130,11 +130,11 @@ fn multiply(
     let mut len: usize = 0;
     let mut steps: usize = 0;
     while p < ia.len() && q < ib.len() {
-        let t = sparse::one_turn(ia, va, p, ib, vb, q);
+        let t = walks::one_turn(ia, va, p, ib, vb, q);
         let x = t.x;
         let y = t.y;
         let z = mul_cells(x, y);
-        len = sparse::put(oi, ov, len, t.place, z);
+        len = walks::put(oi, ov, len, t.place, z);
         p = t.p;
         q = t.q;
         steps += 1;
@@ -174,7 +174,7 @@ fn room_for(op: Op, a: usize, b: usize) -> usize
     match op {
         Op::Add => a + b,
         Op::Sub => a + b,
-        Op::Mul => sparse::smaller(a, b),
+        Op::Mul => walks::smaller(a, b),
     }
 }
 

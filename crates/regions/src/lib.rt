@@ -20,10 +20,10 @@ pub fn capacity(dims: u32, n: usize) -> usize
         return most;
     }
     if n <= 16 {
-        return sparse::smaller(16, most);
+        return walks::smaller(16, most);
     }
     let power = 1usize << (64 - u64::leading_zeros((n - 1) as u64));
-    sparse::smaller(power, most)
+    walks::smaller(power, most)
 }
 
 // Whether n places from `start` on lie inside a list. Start and n together may pass the largest usize.

@@ -17,7 +17,7 @@ use Rattle.refusal.proofs.Chains.{next-valid, refuse-valid, differ-valid}
 use Rattle.refusal.proofs.Dims.{in-range, range-in}
 use Rattle.sparse.specs.Vectors.{Vector, vector, size}
 use Rattle.sparse.specs.Calls.{badDims, falls, tooHigh, zeroAt, checkedOf, eachOf, pairOf}
-use Rattle.sparse.specs.Walk.{Rising, Sound}
+use Rattle.sparse.specs.Sound.{Rising, Sound}
 use Rattle.sparse.proofs.Falls.{rises, falls-at, first-rises}
 
 -- an index that is too high is there

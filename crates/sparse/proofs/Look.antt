@@ -10,7 +10,7 @@ use lib.Ieee.{Float, nan}
 use borrow.Author.Tests.{eq-eqb, ne-eqb}
 use Rattle.places.proofs.Below.{le-or-lt}
 use Rattle.sparse.specs.Cells.{look}
-use Rattle.sparse.specs.Walk.{Rising, Split}
+use Rattle.sparse.specs.Sound.{Rising, Split}
 use Rattle.sparse.specs.declared.Cell.the-variants.{Empty, Full}
 
 -- a place that no index names is empty

@@ -17,7 +17,7 @@ use Rattle.refusal.specs.declared.Checked.the-variants.{Valid}
 use Rattle.sparse.specs.Calls.{zeroAt, checkedOf}
 use Rattle.sparse.specs.Cells.{isZero, keep, look, indexOf, valueOf, indexesBelow, valuesBelow}
 use Rattle.sparse.specs.Vectors.{Vector, at, vectorOf}
-use Rattle.sparse.specs.Walk.{Rising, Sound}
+use Rattle.sparse.specs.Sound.{Rising, Sound}
 use Rattle.sparse.specs.declared.Cell.{Cell}
 use Rattle.sparse.specs.declared.Cell.the-variants.{Empty, Full}
 use Rattle.sparse.proofs.Checks.{valid}

@@ -12,7 +12,7 @@ use Rattle.places.specs.Below.{listBelow}
 use Rattle.places.proofs.Below.{le-or-lt, list-front}
 use Rattle.sparse.specs.Cells.{look, indexesBelow, valuesBelow}
 use Rattle.sparse.specs.Vectors.{Vector, vector, size, at, vectorOf}
-use Rattle.sparse.specs.Walk.{Rising, Split, Sound}
+use Rattle.sparse.specs.Sound.{Rising, Split, Sound}
 use Rattle.sparse.proofs.Entries.{indexes-empty, values-empty}
 use Rattle.sparse.proofs.Look.{look-gap, look-met, split-on, split-met, split-start}
 

@@ -2,5 +2,5 @@
 pub mod Cells
 pub mod Vectors
 pub mod Calls
-pub mod Walk
+pub mod Sound
 pub mod Numbers

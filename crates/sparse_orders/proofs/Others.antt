@@ -8,7 +8,7 @@ use borrow.Author.Count.{below-more}
 use borrow.Author.Tests.{eq-eqb, ne-eqb}
 use Rattle.places.proofs.First.{found, none, some-first, none-first}
 use Rattle.sparse.specs.Vectors.{Vector, size}
-use Rattle.sparse.specs.Walk.{Sound}
+use Rattle.sparse.specs.Sound.{Sound}
 use Rattle.sparse_orders.specs.Loops.{entries, Reach, firstOther}
 use Rattle.sparse_orders.specs.Orders.{indexAt, valueAt, sameEntry, sameEntries}
 

@@ -85,6 +85,6 @@ pub fn partial_cmp(
     if dims_a != dims_b {
         return Ordering::Unordered;
     }
-    let n = sparse::smaller(ia.len(), ib.len());
+    let n = walks::smaller(ia.len(), ib.len());
     compare_at(ia, va, ib, vb, first_other(ia, va, ib, vb, n))
 }

@@ -14,7 +14,7 @@ use Rattle.refusal.specs.declared.Written.the-variants.{Done}
 use Rattle.refusal.proofs.Spans.{Part}
 use Rattle.sparse.specs.Vectors.{Vector, size, at}
 use Rattle.sparse.specs.Calls.{Leaves}
-use Rattle.sparse.specs.Walk.{Split, Sound}
+use Rattle.sparse.specs.Sound.{Split, Sound}
 use Rattle.sparse.proofs.Entries.{as-many}
 use Rattle.sparse_slices.specs.Calls.{slice}
 use Rattle.sparse_slices.specs.Loops.{Moved, Part as Moves}

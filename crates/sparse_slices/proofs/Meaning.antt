@@ -5,7 +5,7 @@ use mathlib.Core.Path.{_≡_}
 use Rattle.refusal.specs.declared.Checked.the-variants.{Valid}
 use Rattle.sparse.specs.Calls.{checkedOf}
 use Rattle.sparse.specs.Vectors.{Vector, at}
-use Rattle.sparse.specs.Walk.{Sound}
+use Rattle.sparse.specs.Sound.{Sound}
 use Rattle.sparse.proofs.Meaning.{at-below, at-nonzero, vector-valid}
 use Rattle.sparse_slices.specs.Calls.{slice}
 

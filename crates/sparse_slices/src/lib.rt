@@ -76,8 +76,8 @@ pub fn subvector(
     let Span::Of(start, end) = span else {
         return Written::Refused(refusal::BOUNDS, 0);
     };
-    let s = sparse::partition_point(indexes, start);
-    let e = sparse::partition_point(indexes, end);
+    let s = walks::partition_point(indexes, start);
+    let e = walks::partition_point(indexes, end);
     let n = e - s;
     if oi.len() < n {
         return Written::Refused(refusal::ROOM, n);

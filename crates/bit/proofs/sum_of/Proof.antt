@@ -2,8 +2,9 @@
 use borrow.Author.Needs.{needs}
 use mathlib.Core.Path.{_≡_, sym, _∙_}
 use Rattle.refusal.specs.declared.Checked.the-variants.{Valid}
-use Rattle.bit.specs.Calls.{pairOf}
-use Rattle.bit.proofs.Pairs.{Pair, pair-sound, alike, ones-dims}
+use Rattle.bits.specs.Calls.{pairOf}
+use Rattle.bits.proofs.Pairs.{Pair, pair-sound, alike}
+use Rattle.bit.proofs.Pairs.{ones-dims}
 use Rattle.bit.proofs.Counted.{count-answer}
 use Rattle.bit.proofs.sum_of.Statement.{statement}
 use Rattle.bit.proofs.sum_of.Tie as tie

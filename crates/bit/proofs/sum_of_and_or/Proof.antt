@@ -2,10 +2,11 @@
 use borrow.Author.Needs.{needs}
 use mathlib.Core.Path.{_≡_, sym, _∙_}
 use Rattle.refusal.specs.declared.Checked.the-variants.{Valid}
-use Rattle.bit.specs.Calls.{pairOf}
-use Rattle.bit.proofs.Pairs.{Pair, pair-sound, alike, ones-dims}
+use Rattle.bits.specs.Calls.{pairOf}
+use Rattle.bits.proofs.Pairs.{Pair, pair-sound, alike}
+use Rattle.bit_words.specs.declared.Op.the-variants.{And, Or}
+use Rattle.bit.proofs.Pairs.{ones-dims}
 use Rattle.bit.proofs.Counted.{counts-answer}
-use Rattle.bit.specs.declared.Op.the-variants.{And, Or}
 use Rattle.bit.proofs.sum_of_and_or.Statement.{statement}
 use Rattle.bit.proofs.sum_of_and_or.Tie as tie
 

@@ -2,11 +2,12 @@
 use borrow.Author.Needs.{needs}
 use mathlib.Core.Path.{_≡_, sym, ap, _∙_}
 use Rattle.refusal.specs.declared.Checked.the-variants.{Valid}
-use Rattle.bit.specs.Calls.{checkedOf}
-use Rattle.bit.proofs.Pairs.{Pair, itself, alike, ones-dims, ones-self}
+use Rattle.bits.specs.Calls.{checkedOf}
+use Rattle.bits.proofs.Pairs.{Pair, itself, alike}
+use Rattle.bit_words.specs.declared.Op.the-variants.{And}
+use Rattle.bit.proofs.Pairs.{ones-dims, ones-self}
 use Rattle.bit.proofs.Counted.{count-answer}
 use Rattle.bit.specs.declared.Count.the-variants.{Ones}
-use Rattle.bit.specs.declared.Op.the-variants.{And}
 use Rattle.bit.proofs.sum_of_x.Statement.{statement}
 use Rattle.bit.proofs.sum_of_x.Tie as tie
 

@@ -7,10 +7,12 @@ use lib.ListN.{length}
 use Rattle.places.proofs.Below.{length-below}
 use Rattle.refusal.specs.declared.Checked.the-variants.{Valid}
 use Rattle.refusal.proofs.Told.{refused-writes, done-writes}
-use Rattle.bit.specs.Bits.{meets, wordsFor, wordsOf}
-use Rattle.bit.specs.Calls.{pairOf}
-use Rattle.bit.specs.Words.{joins}
-use Rattle.bit.proofs.Pairs.{Pair, pair-sound, alike, joins-words}
+use Rattle.bits.specs.Bits.{wordsFor, wordsOf}
+use Rattle.bits.specs.Calls.{pairOf}
+use Rattle.bits.proofs.Pairs.{Pair, pair-sound, alike}
+use Rattle.bit_words.specs.Ops.{meets}
+use Rattle.bit_words.specs.Words.{joins}
+use Rattle.bit.proofs.Pairs.{joins-words}
 use Rattle.bit.proofs.vector_of.Statement.{statement}
 use Rattle.bit.proofs.vector_of.Tie as tie
 

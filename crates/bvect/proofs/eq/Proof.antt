@@ -4,8 +4,8 @@ use borrow.Author.Needs.{needs}
 use mathlib.Core.Path.{_≡_, sym, _∙_}
 use Rattle.refusal.specs.declared.Checked.the-variants.{Valid}
 use Rattle.refusal.proofs.Told.{asked-answer}
-use Rattle.bit.specs.Calls.{eachOf}
-use Rattle.bit.proofs.Pairs.{Pair, each-sound, pair-of, alike}
+use Rattle.bits.specs.Calls.{eachOf}
+use Rattle.bits.proofs.Pairs.{Pair, each-sound, pair-of, alike}
 use Rattle.bvect.proofs.eq.Statement.{statement}
 use Rattle.bvect.proofs.eq.Tie as tie
 

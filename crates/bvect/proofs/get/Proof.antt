@@ -7,8 +7,8 @@ use mathlib.Core.Path.{_≡_, sym, _∙_}
 use lib.Dec.{leb}
 use Rattle.refusal.specs.declared.Checked.the-variants.{Valid}
 use Rattle.refusal.proofs.Told.{asked-answer}
-use Rattle.bit.specs.Calls.{checkedOf}
-use Rattle.bit.proofs.Checks.{sound}
+use Rattle.bits.specs.Calls.{checkedOf}
+use Rattle.bits.proofs.Checks.{sound}
 use Rattle.bvect.proofs.get.Statement.{statement}
 use Rattle.bvect.proofs.get.Tie as tie
 

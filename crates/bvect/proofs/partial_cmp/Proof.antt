@@ -3,9 +3,10 @@ use borrow.Author.Tests.{eq-eqb, ne-eqb}
 use borrow.Author.Needs.{needs}
 use mathlib.Core.Path.{_≡_, sym, _∙_}
 use Rattle.refusal.specs.declared.Checked.the-variants.{Valid}
-use Rattle.bit.specs.Calls.{eachOf}
-use Rattle.bit.proofs.Pairs.{Pair, each-sound, pair-of, alike}
-use Rattle.bvect.proofs.Orders.{compares, order-dims}
+use Rattle.bits.specs.Calls.{eachOf}
+use Rattle.bits.proofs.Pairs.{Pair, each-sound, pair-of, alike}
+use Rattle.bit_orders.proofs.Orders.{order-dims}
+use Rattle.bvect.proofs.Compared.{compares}
 use Rattle.bvect.proofs.partial_cmp.Statement.{statement}
 use Rattle.bvect.proofs.partial_cmp.Tie as tie
 

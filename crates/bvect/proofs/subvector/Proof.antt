@@ -9,9 +9,9 @@ use Rattle.refusal.specs.Bounds.{startOf, endOf}
 use Rattle.refusal.specs.declared.Checked.the-variants.{Valid}
 use Rattle.refusal.proofs.Spans.{Part, span-bad, span-part}
 use Rattle.refusal.proofs.Told.{refused-writes}
-use Rattle.bit.specs.Bits.{wordsFor}
-use Rattle.bit.specs.Calls.{checkedOf}
-use Rattle.bit.proofs.Checks.{sound}
+use Rattle.bits.specs.Bits.{wordsFor}
+use Rattle.bits.specs.Calls.{checkedOf}
+use Rattle.bits.proofs.Checks.{sound}
 use Rattle.bvect.proofs.Slices.{slice-writes}
 use Rattle.bvect.proofs.subvector.Statement.{statement}
 use Rattle.bvect.proofs.subvector.Tie as tie

@@ -7,8 +7,8 @@ use mathlib.Core.Path.{_≡_}
 use lib.ListN.{length}
 use Rattle.refusal.proofs.Dims.{some, zero-outside, high-outside, in-range}
 use Rattle.refusal.proofs.Told.{refused-writes}
-use Rattle.bit.specs.Bits.{wordsFor}
-use Rattle.bit.specs.Calls.{badDims}
+use Rattle.bits.specs.Bits.{wordsFor}
+use Rattle.bits.specs.Calls.{badDims}
 use Rattle.bvect.proofs.Slices.{none-writes}
 use Rattle.bvect.proofs.zero.Statement.{statement}
 use Rattle.bvect.proofs.zero.Tie as tie

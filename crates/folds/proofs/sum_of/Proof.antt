@@ -7,7 +7,7 @@ use lib.ListN.{length}
 use borrow.Author.Needs.{needs}
 use Rattle.sparse.specs.Cells.{zero32}
 use Rattle.sparse.specs.Vectors.{vector}
-use Rattle.sparse.proofs.Walk.{passed, standing}
+use Rattle.walks.proofs.Walk.{passed, standing}
 use Rattle.folds.specs.Sums.{stepOf}
 use Rattle.folds.proofs.Summing.{Summing, summing-start, summing-more, summing-end}
 use Rattle.folds.proofs.Still.{still}

@@ -6,7 +6,7 @@ use mathlib.Core.Path.{refl}
 use lib.ListN.{length}
 use borrow.Author.Needs.{needs}
 use Rattle.sparse.specs.Vectors.{vector}
-use Rattle.sparse.proofs.Walk.{passed, standing}
+use Rattle.walks.proofs.Walk.{passed, standing}
 use Rattle.folds.specs.Sums.{threeStep, zeroThree}
 use Rattle.folds.proofs.Summing.{Summing, summing-start, summing-more, summing-end}
 use Rattle.folds.proofs.Still.{still-three}

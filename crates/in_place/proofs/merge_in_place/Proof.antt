@@ -4,7 +4,7 @@ use native.Mathlib.Omega.{arith}
 use lib.ListN.{take}
 use borrow.Author.Needs.{needs}
 use Rattle.sparse.specs.Vectors.{vector}
-use Rattle.sparse.specs.Walk.{Split}
+use Rattle.sparse.specs.Sound.{Split}
 use Rattle.in_place.specs.Turns.{firstIndex}
 use Rattle.in_place.proofs.Whole.{movable, raised, grown}
 use Rattle.in_place.proofs.merge_in_place.Statement.{statement}

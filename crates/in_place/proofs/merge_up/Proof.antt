@@ -6,7 +6,7 @@ use lib.ListN.{length}
 use borrow.Author.Needs.{needs}
 use Rattle.sparse.specs.Vectors.{vector}
 use Rattle.sparse.proofs.Checks.{sizes-most}
-use Rattle.sparse.proofs.Walk.{passed}
+use Rattle.walks.proofs.Walk.{passed}
 use Rattle.in_place.proofs.Climbs.{Climbing, lying, climbing-start, climbing-steady, climbing-more, climbing-end}
 use Rattle.in_place.proofs.Climbs.{reached, lengths, step-within}
 use Rattle.in_place.proofs.merge_up.Statement.{statement}

@@ -7,7 +7,7 @@ use lib.ListN.{length}
 use borrow.Author.Needs.{needs}
 use Rattle.sparse.specs.Vectors.{vector}
 use Rattle.sparse.proofs.Checks.{sizes-most}
-use Rattle.sparse.proofs.Walk.{passed, standing}
+use Rattle.walks.proofs.Walk.{passed, standing}
 use Rattle.merges.proofs.Made.{Merging, merging-start, merging-more, lengths, fits, merging-fills}
 use Rattle.merges.proofs.merge.Statement.{statement}
 use Rattle.merges.proofs.merge.Tie as tie

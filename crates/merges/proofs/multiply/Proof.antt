@@ -9,7 +9,7 @@ use borrow.Author.Needs.{needs}
 use borrow.Author.Tests.{ltb-true, ltb-false}
 use Rattle.sparse.specs.Vectors.{vector}
 use Rattle.sparse.proofs.Checks.{sizes-most}
-use Rattle.sparse.proofs.Walk.{passed, standing}
+use Rattle.walks.proofs.Walk.{passed, standing}
 use Rattle.merges.proofs.Common.{Multiplying, multiplying-start, lengths, multiplying-more, multiplying-end}
 use Rattle.merges.proofs.multiply.Statement.{statement}
 use Rattle.merges.proofs.multiply.Tie as tie

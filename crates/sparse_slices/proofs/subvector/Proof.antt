@@ -9,7 +9,7 @@ use Rattle.refusal.specs.declared.Checked.the-variants.{Valid}
 use Rattle.refusal.proofs.Spans.{Part, span-bad, span-part}
 use Rattle.sparse.specs.Calls.{checkedOf}
 use Rattle.sparse.specs.Vectors.{Vector, vector, size}
-use Rattle.sparse.specs.Walk.{Sound}
+use Rattle.sparse.specs.Sound.{Sound}
 use Rattle.sparse.proofs.Checks.{sound}
 use Rattle.sparse_slices.specs.Calls.{slice}
 use Rattle.sparse_slices.proofs.Cuts.{fits, movable, slice-size, slice-written}

@@ -1,0 +1,2 @@
+-- Laws of counts as floats.
+pub mod Counts

@@ -1,0 +1,25 @@
+-- Document 01, "Bit distances". A count is at most 65,535, so its float is that number exactly.
+use Prim.Native.Nat.{ℕ}
+use mathlib.Core.List.{List}
+use lib.IntN.{pos}
+use lib.Ieee.{Float, binary32, ofInt, neg, sub, div}
+use Rattle.places.specs.Below.{countBelow}
+use Rattle.bit_words.specs.Ops.{meets}
+use Rattle.bit_words.specs.declared.Op.{Op}
+use Rattle.bit_words.specs.declared.Op.the-variants.{And, Or, Xor}
+
+-- the f32 number of the ones of two vectors put together
+abbrev pub onesAsFloat : Op → ℕ → List ℕ → List ℕ → Float
+onesAsFloat op d a b = ofInt binary32 (pos (countBelow (meets op a b) d))
+
+-- "Dot is the negated f32 number of common ones."
+abbrev pub dotOf : ℕ → List ℕ → List ℕ → Float
+dotOf d a b = neg (onesAsFloat And d a b)
+
+-- "Hamming is the number of differing bits."
+abbrev pub hammingOf : ℕ → List ℕ → List ℕ → Float
+hammingOf d a b = onesAsFloat Xor d a b
+
+-- "Jaccard is 1.0 - (and / or), counts as f32, each step rounded once; two all-zero vectors give NaN."
+abbrev pub jaccardOf : ℕ → List ℕ → List ℕ → Float
+jaccardOf d a b = sub binary32 (ofInt binary32 (pos 1)) (div binary32 (onesAsFloat And d a b) (onesAsFloat Or d a b))

@@ -1,0 +1,38 @@
+// Distances of bit vectors. Every call tests the vectors it is given, the left one first.
+
+use refusal::Distance;
+ghost use Rattle.bit_distances.specs.Calls.{Dots, Hammings, Jaccards};
+
+// The negated number of common ones. Refuses as `bit::check_pair` does, and so do the next two.
+pub fn operator_dot(dims_a: u32, a: &[u64], dims_b: u32, b: &[u64]) -> Distance
+    ensures { λ r. ⌜ Dots «dims_a» (now (a .entry)) «dims_b» (now (b .entry)) r ⌝ }
+{
+    match bit::sum_of_and(dims_a, a, dims_b, b) {
+        bit::Count::Ones(n) => Distance::Value(-(n as f32)),
+        bit::Count::Refused(number, place) => Distance::Refused(number, place),
+    }
+}
+
+// The number of differing bits.
+pub fn operator_hamming(dims_a: u32, a: &[u64], dims_b: u32, b: &[u64]) -> Distance
+    ensures { λ r. ⌜ Hammings «dims_a» (now (a .entry)) «dims_b» (now (b .entry)) r ⌝ }
+{
+    match bit::sum_of_xor(dims_a, a, dims_b, b) {
+        bit::Count::Ones(n) => Distance::Value(n as f32),
+        bit::Count::Refused(number, place) => Distance::Refused(number, place),
+    }
+}
+
+// 1.0 - (and / or), each step rounded once. Two vectors without ones give NaN.
+pub fn operator_jaccard(dims_a: u32, a: &[u64], dims_b: u32, b: &[u64]) -> Distance
+    ensures { λ r. ⌜ Jaccards «dims_a» (now (a .entry)) «dims_b» (now (b .entry)) r ⌝ }
+{
+    match bit::sum_of_and_or(dims_a, a, dims_b, b) {
+        bit::Counts::Ones(and, or) => {
+            let common = and as f32;
+            let all = or as f32;
+            Distance::Value(1.0 - common / all)
+        }
+        bit::Counts::Refused(number, place) => Distance::Refused(number, place),
+    }
+}

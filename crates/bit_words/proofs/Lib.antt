@@ -1,0 +1,3 @@
+-- Laws of words put together, and of their ones.
+pub mod Joins
+pub mod Ones

@@ -1,0 +1,3 @@
+-- The definitions that the contracts of `bit_words` cite.
+pub mod Ops
+pub mod Words

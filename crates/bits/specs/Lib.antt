@@ -1,0 +1,4 @@
+-- The definitions that the contracts of `bits` cite.
+pub mod Bits
+pub mod Calls
+pub mod Words

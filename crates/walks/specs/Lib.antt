@@ -1,0 +1,2 @@
+-- The definitions that the contracts of `walks` cite.
+pub mod Walk

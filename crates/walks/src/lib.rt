@@ -1,0 +1,128 @@
+// What the loops over sparse vectors share: one turn of a walk over two, one store, and a search by halving.
+
+use sparse::Cell;
+ghost use mathlib.Core.Path.{_≡_};
+ghost use Prim.Native.Nat.{_+_, _<_, min};
+ghost use lib.ListN.{length};
+ghost use Rattle.sparse.specs.Cells.{keep};
+ghost use Rattle.sparse.specs.Sound.{Rising, Split};
+ghost use Rattle.sparse.specs.declared.Cell.the-variants.{Empty, Full};
+ghost use Rattle.walks.specs.Walk.{turn, Standing, Turned, Put};
+
+// One turn of a walk over two vectors: the next place, what each holds there, and their next entries.
+pub struct Turn {
+    pub place: u32,
+    pub x: Cell,
+    pub y: Cell,
+    pub p: usize,
+    pub q: usize,
+}
+
+// The turn to a place that only the left vector has, only the right one, or both.
+fn left_turn(place: u32, v: f32, p: usize, q: usize) -> Turn
+    requires { ⌜ p < 1048575 ⌝ }
+    ensures { λ r. ⌜ r ≡ turn place (Full v) Empty (p + 1) q ⌝ }
+{
+    Turn {
+        place: place,
+        x: Cell::Full(v),
+        y: Cell::Empty,
+        p: p + 1,
+        q: q,
+    }
+}
+
+fn right_turn(place: u32, w: f32, p: usize, q: usize) -> Turn
+    requires { ⌜ q < 1048575 ⌝ }
+    ensures { λ r. ⌜ r ≡ turn place Empty (Full w) p (q + 1) ⌝ }
+{
+    Turn {
+        place: place,
+        x: Cell::Empty,
+        y: Cell::Full(w),
+        p: p,
+        q: q + 1,
+    }
+}
+
+fn both_turn(place: u32, v: f32, w: f32, p: usize, q: usize) -> Turn
+    requires { ⌜ (p < 1048575) × (q < 1048575) ⌝ }
+    ensures { λ r. ⌜ r ≡ turn place (Full v) (Full w) (p + 1) (q + 1) ⌝ }
+{
+    Turn {
+        place: place,
+        x: Cell::Full(v),
+        y: Cell::Full(w),
+        p: p + 1,
+        q: q + 1,
+    }
+}
+
+// The next turn of a walk that has come to the entries p and q and has one left. For the loops of the
+// crates above, not for users.
+pub fn one_turn(ia: &[u32], va: &[f32], p: usize, ib: &[u32], vb: &[f32], q: usize) -> Turn
+    requires { ⌜ Standing (now ia) (now va) p (now ib) (now vb) q ⌝ }
+    ensures { λ r. ⌜ Turned (now (ia .entry)) (now (va .entry)) p (now (ib .entry)) (now (vb .entry)) q r ⌝ }
+{
+    if ia.len() <= p {
+        return right_turn(ib[q], vb[q], p, q);
+    }
+    let i = ia[p];
+    if ib.len() <= q {
+        return left_turn(i, va[p], p, q);
+    }
+    let j = ib[q];
+    if i < j {
+        return left_turn(i, va[p], p, q);
+    }
+    if j < i {
+        return right_turn(j, vb[q], p, q);
+    }
+    both_turn(i, va[p], vb[q], p, q)
+}
+
+// Nothing for a zero of either sign, and else the value.
+pub fn kept(v: f32) -> Cell
+    ensures { λ r. ⌜ r ≡ keep v ⌝ }
+{
+    if v == 0.0 { Cell::Empty } else { Cell::Full(v) }
+}
+
+// Stores what stands at a place as the entry n, if it is full, and returns the next entry. For the
+// loops of the crates above, not for users.
+pub fn put(oi: &mut [u32], ov: &mut [f32], n: usize, place: u32, z: Cell) -> usize
+    requires { ⌜ (n < length (now oi)) × (n < length (now ov)) ⌝ }
+    ensures { λ r. ⌜ Put z place n (now (oi .entry)) (now (ov .entry)) r (now (oi .exit)) (now (ov .exit)) ⌝ }
+{
+    if let Cell::Full(v) = z {
+        oi[n] = place;
+        ov[n] = v;
+        return n + 1;
+    }
+    n
+}
+
+// How many of the rising indexes are below `place`, found by halving. For the crates above, not for users.
+pub fn partition_point(indexes: &[u32], place: u32) -> usize
+    requires { ⌜ Rising (now indexes) ⌝ }
+    ensures { λ r. ⌜ Split (now (indexes .entry)) r place ⌝ }
+{
+    let mut low: usize = 0;
+    let mut high: usize = indexes.len();
+    while low < high {
+        let middle = low + (high - low) / 2;
+        if indexes[middle] < place {
+            low = middle + 1;
+        } else {
+            high = middle;
+        }
+    }
+    low
+}
+
+// The smaller of two lengths.
+pub fn smaller(a: usize, b: usize) -> usize
+    ensures { λ r. ⌜ r ≡ min a b ⌝ }
+{
+    if a <= b { a } else { b }
+}
