@@ -12,7 +12,7 @@ mod digits;
 mod lists;
 
 use crate::digits::Longer;
-ghost use Prim.Native.Nat.{_≤_};
+ghost use Prim.Native.Nat.{_<_, _≤_};
 ghost use mathlib.Core.Path.{_≡_};
 ghost use lib.ListN.{length};
 ghost use Rattle.io.specs.Counts.{Counts};
@@ -159,6 +159,30 @@ pub fn small_number(s: &[u8], from: usize, is_hex: bool) -> Small {
     Small {
         value: n.value as u32,
         at: n.at,
+    }
+}
+
+fn wide(c: u8) -> u64
+    ensures { λ r. ⌜ r < 256 ⌝ }
+{
+    c as u64
+}
+
+// A name, and the place after it. A name goes up to a space or the end, and is told by its last eight letters: they
+// are the digits of a number of base 256. So `bit` is 0x626974, as `b` is 0x62, `i` is 0x69 and `t` is 0x74.
+pub fn name(s: &[u8], from: usize) -> Numeral {
+    let mut value: u64 = 0;
+    let mut at = from;
+    while at < s.len() {
+        if s[at] == b' ' {
+            break;
+        }
+        value = value % 72057594037927936 * 256 + wide(s[at]);
+        at += 1;
+    }
+    Numeral {
+        value: value,
+        at: at,
     }
 }
 
