@@ -92,56 +92,55 @@ fn join(call: u64, dims_a: u32, a: &[u64], dims_b: u32, b: &[u64], out: &mut [u6
     }
 }
 
-fn step(name: &[u8], call: u64, dims_a: u32, a: &[u64], dims_b: u32, b: &[u64], out: &mut [u64]) {
-    shown::text(name);
+// The name of a call that combines two vectors, as a part of a line.
+fn title(call: u64) {
+    match call {
+        AND => shown::text(b" and"),
+        OR => shown::text(b"; or"),
+        XOR => shown::text(b"; xor"),
+        VECTOR_AND => shown::text(b"; vector_and"),
+        VECTOR_OR => shown::text(b"; vector_or"),
+        _ => shown::text(b"; vector_xor"),
+    }
+}
+
+fn step(call: u64, dims_a: u32, a: &[u64], dims_b: u32, b: &[u64], out: &mut [u64]) {
+    title(call);
     shown::written(join(call, dims_a, a, dims_b, b, out), b" words");
 }
 
-fn operators(dims_a: u32, a: &[u64], dims_b: u32, b: &[u64], out: &mut [u64]) {
-    step(b" and", AND, dims_a, a, dims_b, b, out);
-    step(b"; or", OR, dims_a, a, dims_b, b, out);
-    step(b"; xor", XOR, dims_a, a, dims_b, b, out);
-}
-
-fn vectors(dims_a: u32, a: &[u64], dims_b: u32, b: &[u64], out: &mut [u64]) {
-    step(b"; vector_and", VECTOR_AND, dims_a, a, dims_b, b, out);
-    step(b"; vector_or", VECTOR_OR, dims_a, a, dims_b, b, out);
-    step(b"; vector_xor", VECTOR_XOR, dims_a, a, dims_b, b, out);
-}
-
+// The calls that combine two vectors, one after another.
 fn combine(dims_a: u32, a: &[u64], dims_b: u32, b: &[u64], out: &mut [u64]) {
-    operators(dims_a, a, dims_b, b, out);
-    vectors(dims_a, a, dims_b, b, out);
-    show::left(out);
-}
-
-// Runs a call that writes one vector; one that combines two, where it is neither of the others.
-fn write(
-    call: u64,
-    dims_a: u32,
-    a: &[u64],
-    dims_b: u32,
-    b: &[u64],
-    ends: Ends,
-    out: &mut [u64],
-) -> Written {
-    let from = ends.from;
-    let to = ends.to;
-    match call {
-        ZERO => bvect::zero(dims_a, out),
-        SUBVECTOR => bvect::subvector(dims_a, a, from, to, out),
-        _ => join(call, dims_a, a, dims_b, b, out),
+    let calls = [AND, OR, XOR, VECTOR_AND, VECTOR_OR, VECTOR_XOR];
+    let mut i: usize = 0;
+    while i < 6 {
+        step(calls[i], dims_a, a, dims_b, b, out);
+        i += 1;
     }
 }
 
 // Runs calls that write to a lent list, and shows what they left there.
-fn lent(call: u64, dims_a: u32, a: &[u64], dims_b: u32, b: &[u64], ends: Ends, out: &mut [u64]) {
-    if call == COMBINE {
-        combine(dims_a, a, dims_b, b, out);
-        return;
+fn write(call: u64, dims_a: u32, a: &[u64], dims_b: u32, b: &[u64], ends: Ends, out: &mut [u64]) {
+    let from = ends.from;
+    let to = ends.to;
+    match call {
+        ZERO => {
+            let r = bvect::zero(dims_a, out);
+            show::written(r, out);
+        }
+        SUBVECTOR => {
+            let r = bvect::subvector(dims_a, a, from, to, out);
+            show::written(r, out);
+        }
+        COMBINE => {
+            combine(dims_a, a, dims_b, b, out);
+            show::left(out);
+        }
+        _ => {
+            let r = join(call, dims_a, a, dims_b, b, out);
+            show::written(r, out);
+        }
     }
-    let r = write(call, dims_a, a, dims_b, b, ends, out);
-    show::written(r, out);
 }
 
 // Lends a list of so many places. Answers whether there are as many.
@@ -151,7 +150,7 @@ fn lend(call: u64, dims_a: u32, a: &[u64], dims_b: u32, b: &[u64], ends: Ends, r
     }
     let n = room as usize;
     let mut out = [MARK; 1025];
-    lent(call, dims_a, a, dims_b, b, ends, &mut out[0..n]);
+    write(call, dims_a, a, dims_b, b, ends, &mut out[0..n]);
     true
 }
 
@@ -173,30 +172,40 @@ fn run(call: u64, dims_a: u32, a: &[u64], dims_b: u32, b: &[u64], ends: Ends, ro
     true
 }
 
-// Reads what follows a label, and runs the call on it. Answers whether it is a case.
-fn case(s: &[u8], bar: usize) -> bool {
-    let x = read::start(s, bar);
-    let mut a = [x.word; 1025];
-    let n = read::words(s, x, &mut a);
-    let y = read::start(s, n.at);
-    let mut b = [y.word; 1025];
-    let m = read::words(s, y, &mut b);
-    let ends = bounds::two(s, m.at);
+// Reads what follows the vectors, and runs the call. Answers whether the line is a case.
+fn rest(s: &[u8], from: usize, dims_a: u32, a: &[u64], dims_b: u32, b: &[u64]) -> bool {
+    let ends = bounds::two(s, from);
     let room = cases::dims(s, cases::after(s, ends.at, b' '));
     if room.at != s.len() {
         return false;
     }
-    let k = n.many;
-    let l = m.many;
     run(
         cases::name(s, 0).value,
-        x.dims,
-        &a[0..k],
-        y.dims,
-        &b[0..l],
+        dims_a,
+        a,
+        dims_b,
+        b,
         ends,
         room.value,
     )
+}
+
+// Reads what follows the first vector.
+fn second(s: &[u8], from: usize, dims: u32, words: &[u64]) -> bool {
+    let x = read::start(s, from);
+    let mut list = [x.word; 1025];
+    let n = read::words(s, x, &mut list);
+    let k = n.many;
+    rest(s, n.at, dims, words, x.dims, &list[0..k])
+}
+
+// Reads what follows a label.
+fn first(s: &[u8], bar: usize) -> bool {
+    let x = read::start(s, bar);
+    let mut list = [x.word; 1025];
+    let n = read::words(s, x, &mut list);
+    let k = n.many;
+    second(s, n.at, x.dims, &list[0..k])
 }
 
 // Prints a line's label and a colon, and not the space between the label and the bar. Answers the bar's place.
@@ -212,5 +221,5 @@ fn label(s: &[u8]) -> usize {
 
 // Runs one line. Answers whether it is a case.
 pub fn line(s: &[u8]) -> bool {
-    cases::ended(case(s, label(s)))
+    cases::ended(first(s, label(s)))
 }

@@ -9,8 +9,9 @@ fn word(w: u64) {
     io::print_hex(libc::STDOUT_FILENO, w, 16);
 }
 
-fn words(a: &[u64]) {
-    let mut i: usize = 0;
+// The words from a place on.
+fn words(a: &[u64], from: usize) {
+    let mut i = from;
     while i < a.len() {
         word(a[i]);
         i += 1;
@@ -30,21 +31,19 @@ pub fn count(name: &[u8], r: Count) {
 }
 
 pub fn counts(name: &[u8], r: Counts) {
-    shown::text(name);
     match r {
         Counts::Ones(and, or) => {
-            shown::text(b" ones");
-            shown::number(and as u64);
+            count(name, Count::Ones(and));
             shown::number(or as u64);
         }
-        Counts::Refused(n, p) => shown::refused(n, p),
+        Counts::Refused(n, p) => count(name, Count::Refused(n, p)),
     }
 }
 
 // The words of a lent list.
 pub fn left(out: &[u64]) {
     shown::text(b" |");
-    words(out);
+    words(out, 0);
 }
 
 // Of a list of 1,024 words or more: the ones of its vector of `dims` bits, its first word, and its words from
@@ -57,7 +56,7 @@ fn edges(dims: u32, out: &[u64]) {
     shown::text(b" |");
     word(out[0]);
     shown::text(b" ..");
-    words(&out[1023..]);
+    words(out, 1023);
 }
 
 // What a call answered, and what it left in a lent list: its words; or, of a list of more than 16, its edges if
