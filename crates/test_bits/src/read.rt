@@ -12,8 +12,8 @@ pub struct Head {
     pub at: usize,
 }
 
-// The start of a vector, after a bar. Of a vector that is not there the dims are 0. A word that does not stand more
-// than once is not part of the start.
+// The start of a vector, after a bar. Of a vector that is not there the dims are 0. A word without `*` is not part
+// of the start.
 pub fn start(s: &[u8], from: usize) -> Head
     ensures { λ r. ⌜ r .times ≤ 1025 ⌝ }
 {
@@ -21,8 +21,9 @@ pub fn start(s: &[u8], from: usize) -> Head
     let at = cases::after(s, dims.at, b' ');
     let times = cases::number(s, at, false);
     let star = cases::after(s, times.at, b'*');
-    let word = cases::number(s, star, true);
-    if star == times.at || 1025 < times.value {
+    let mut word = [0u64; 1];
+    let one = cases::numbers(s, star, true, &mut word);
+    if star == times.at || one.many == 0 || 1025 < times.value {
         return Head {
             dims: dims.value,
             word: 0,
@@ -32,9 +33,9 @@ pub fn start(s: &[u8], from: usize) -> Head
     }
     Head {
         dims: dims.value,
-        word: word.value,
+        word: word[0],
         times: times.value as usize,
-        at: cases::after(s, word.at, b' '),
+        at: one.at,
     }
 }
 
