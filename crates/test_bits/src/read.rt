@@ -23,7 +23,7 @@ pub fn start(s: &[u8], from: usize) -> Head
     let star = cases::after(s, times.at, b'*');
     let mut word = [0u64; 1];
     let one = cases::numbers(s, star, true, &mut word);
-    if star == times.at || one.many == 0 || 1025 < times.value {
+    if at == dims.at || star == times.at || one.many == 0 || 1025 < times.value {
         return Head {
             dims: dims.value,
             word: 0,
