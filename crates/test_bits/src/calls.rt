@@ -208,18 +208,9 @@ fn first(s: &[u8], bar: usize) -> bool {
     second(s, n.at, x.dims, &list[0..k])
 }
 
-// Prints a line's label and a colon, and not the space between the label and the bar. Answers the bar's place.
-fn label(s: &[u8]) -> usize {
-    let bar = cases::find(s, 0, b'|');
-    if 0 < bar {
-        let end = bar - 1;
-        shown::text(&s[0..end]);
-    }
-    shown::text(b":");
-    bar
-}
-
 // Runs one line. Answers whether it is a case.
 pub fn line(s: &[u8]) -> bool {
-    cases::ended(first(s, label(s)))
+    let bar = cases::title(s);
+    shown::text(b":");
+    cases::ended(first(s, bar))
 }
