@@ -12,7 +12,7 @@ mod digits;
 mod lists;
 
 use crate::digits::Longer;
-ghost use Prim.Native.Nat.{_≤_};
+ghost use Prim.Native.Nat.{_<_, _≤_};
 ghost use mathlib.Core.Path.{_≡_};
 ghost use lib.ListN.{length};
 ghost use Rattle.io.specs.Counts.{Counts};
@@ -122,6 +122,16 @@ pub fn label(s: &[u8]) -> usize {
     bar
 }
 
+// Prints a line's label, and neither the space before the bar nor the bar. Answers the bar's place.
+pub fn title(s: &[u8]) -> usize {
+    let bar = find(s, 0, b'|');
+    if 0 < bar {
+        let end = bar - 1;
+        shown::text(&s[0..end]);
+    }
+    bar
+}
+
 // Ends what is printed for a line. Answers, as it is told, whether the line is a case.
 pub fn ended(is_case: bool) -> bool {
     if is_case {
@@ -162,21 +172,54 @@ pub fn small_number(s: &[u8], from: usize, is_hex: bool) -> Small {
     }
 }
 
+fn wide(c: u8) -> u64
+    ensures { λ r. ⌜ r < 256 ⌝ }
+{
+    c as u64
+}
+
+// A name, and the place after it. A name goes up to a space or the end, and is told by its last eight letters: they
+// are the digits of a number of base 256. So `bit` is 0x626974, as `b` is 0x62, `i` is 0x69 and `t` is 0x74.
+pub fn name(s: &[u8], from: usize) -> Numeral {
+    let mut value: u64 = 0;
+    let mut at = from;
+    while at < s.len() {
+        if s[at] == b' ' {
+            break;
+        }
+        value = value % 72057594037927936 * 256 + wide(s[at]);
+        at += 1;
+    }
+    Numeral {
+        value: value,
+        at: at,
+    }
+}
+
 // The dims of a vector, after a bar. Of a vector that is not there they are 0, and the place is not moved.
 pub fn dims(s: &[u8], from: usize) -> Small {
     let bar = after(s, from, b'|');
     let start = after(s, bar, b' ');
     let n = small_number(s, start, false);
-    if bar == from || n.at == start {
-        return Small { value: 0, at: from };
+    let none = Small { value: 0, at: from };
+    if bar == from {
+        return none;
+    }
+    if n.at == start {
+        return none;
     }
     n
 }
 
-// Whether a number may end here: at a space, a bar or the end.
-fn ends(s: &[u8], at: usize) -> bool {
-    let c = byte(s, at);
-    c == b' ' || c == b'|' || c == 0
+// Whether a number is read from a place up to another, and may end there: at a space, a bar or the end.
+fn is_number(s: &[u8], from: usize, at: usize) -> bool {
+    if at == from {
+        return false;
+    }
+    match byte(s, at) {
+        b' ' | b'|' | 0 => true,
+        _ => false,
+    }
 }
 
 // Numbers in a row of base 16 or 10, as many as the list has room for, each with a space, a bar or the line's
@@ -188,7 +231,7 @@ pub fn numbers(s: &[u8], from: usize, is_hex: bool, list: &mut [u64]) -> Several
     let mut at = from;
     while many < list.len() {
         let n = number(s, at, is_hex);
-        if n.at == at || !ends(s, n.at) {
+        if !is_number(s, at, n.at) {
             break;
         }
         list[many] = n.value;

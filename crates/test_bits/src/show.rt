@@ -1,51 +1,26 @@
-// Prints counts and words, and the parts of a line; a word shows its sixteen digits.
+// Prints counts, and what a call left in a lent list. A word shows its sixteen digits.
 
 use bit::Count;
 use bit::Counts;
-
-// What a lent list is filled with before a call.
-pub const MARK: u64 = 0xeeee_eeee_eeee_eeee;
-
-pub const ALL: u64 = 0xffff_ffff_ffff_ffff;
-
-// All ones but bit 63, and bit 63 alone.
-pub const LOW: u64 = 0x7fff_ffff_ffff_ffff;
-
-pub const TOP: u64 = 0x8000_0000_0000_0000;
-
-// The start of a line: the call and the case.
-pub fn head(call: &[u8], label: &[u8]) {
-    shown::text(call);
-    shown::text(b" ");
-    shown::text(label);
-    shown::text(b":");
-}
-
-pub fn end() {
-    shown::text(b"\n");
-}
+use refusal::Written;
 
 fn word(w: u64) {
     shown::text(b" ");
     io::print_hex(libc::STDOUT_FILENO, w, 16);
 }
 
-pub fn words(a: &[u64]) {
-    let mut i: usize = 0;
+// The words from a place on.
+fn words(a: &[u64], from: usize) {
+    let mut i = from;
     while i < a.len() {
         word(a[i]);
         i += 1;
     }
 }
 
-// What a call left in a lent list, and the end of the line.
-pub fn left(out: &[u64]) {
-    shown::text(b" |");
-    words(out);
-    end();
-}
-
-pub fn count(r: Count) {
+// A name, and the ones that a call counted.
+pub fn count(name: &[u8], r: Count) {
+    shown::text(name);
     match r {
         Count::Ones(n) => {
             shown::text(b" ones");
@@ -55,13 +30,44 @@ pub fn count(r: Count) {
     }
 }
 
-pub fn counts(r: Counts) {
+pub fn counts(name: &[u8], r: Counts) {
     match r {
         Counts::Ones(and, or) => {
-            shown::text(b" ones");
-            shown::number(and as u64);
+            count(name, Count::Ones(and));
             shown::number(or as u64);
         }
-        Counts::Refused(n, p) => shown::refused(n, p),
+        Counts::Refused(n, p) => count(name, Count::Refused(n, p)),
+    }
+}
+
+// The words of a lent list.
+pub fn left(out: &[u64]) {
+    shown::text(b" |");
+    words(out, 0);
+}
+
+// Of a list of 1,024 words or more: the ones of its vector of `dims` bits, its first word, and its words from
+// place 1,023 on.
+fn edges(dims: u32, out: &[u64]) {
+    if out.len() < 1024 {
+        return;
+    }
+    count(b";", bit::sum_of_x(dims, &out[0..1024]));
+    shown::text(b" |");
+    word(out[0]);
+    shown::text(b" ..");
+    words(out, 1023);
+}
+
+// What a call answered, and what it left in a lent list: its words; or, of a list of more than 16, its edges if
+// the call is done.
+pub fn written(r: Written, out: &[u64]) {
+    shown::written(r, b" words");
+    if out.len() <= 16 {
+        left(out);
+        return;
+    }
+    if let Written::Done(dims, n) = r {
+        edges(dims, out);
     }
 }

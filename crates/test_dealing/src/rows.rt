@@ -2,16 +2,18 @@
 // 12 entries, whole numbers between -50,000 and 50,000. The magnitudes at an index add up to less than 16,777,216,
 // and at some to nearly as much: the program prints their sums.
 
+ghost use Prim.Native.Nat.{_≤_};
+
 pub const ROWS: usize = 2000;
 
 pub const DIMS: u32 = 48;
 
-// The values as they are, their magnitudes, or thirds of them.
-pub enum Kind {
-    Whole,
-    Magnitudes,
-    Thirds,
-}
+// The kinds of values: as they are, their magnitudes, or thirds of them.
+pub const WHOLE: u64 = 0;
+
+pub const MAGNITUDES: u64 = 1;
+
+pub const THIRDS: u64 = 2;
 
 // Rows r and HALF + r have the same indexes.
 const HALF: usize = 1000;
@@ -49,11 +51,11 @@ fn whole(r: usize, i: usize) -> f32 {
 }
 
 // What a row of this kind has where the row has x.
-fn of_kind(kind: Kind, x: f32) -> f32 {
+fn of_kind(kind: u64, x: f32) -> f32 {
     match kind {
-        Kind::Whole => x,
-        Kind::Magnitudes => { if x < 0.0 { -x } else { x } }
-        Kind::Thirds => x / 3.0,
+        WHOLE => x,
+        MAGNITUDES => { if x < 0.0 { -x } else { x } }
+        _ => x / 3.0,
     }
 }
 
@@ -63,7 +65,9 @@ fn next(r: usize, i: usize) -> usize {
 }
 
 // Writes row r to the front of two lists, and answers how many entries it has.
-pub fn row(r: usize, kind: Kind, indexes: &mut [u32; 12], values: &mut [f32; 12]) -> usize {
+pub fn row(r: usize, kind: u64, indexes: &mut [u32; 12], values: &mut [f32; 12]) -> usize
+    ensures { λ at. ⌜ at ≤ 12 ⌝ }
+{
     let n = mixed(r % HALF, 1) % 13;
     let mut i = mixed(r % HALF, 2) % 6;
     let mut at: usize = 0;

@@ -1,45 +1,47 @@
-// A setting: how many states there are, which state each row goes to, in which order the rows come, and in which
-// order the states are combined.
+// A setting: how many states there are, which state each row goes to, in which order the rows come, in which
+// order the states are combined, and of which kind the rows are.
 
 use crate::rows;
-use crate::rows::Kind;
 ghost use Prim.Native.Nat.{_<_, _≤_};
 
-pub enum Deal {
-    // The rows go round the states.
-    Turns,
-    // Each state has rows that follow one another; the last may have none.
-    Blocks,
-    // A scrambled number says which, and the first states have more rows than the last.
-    Scrambled,
-    // The first state has nearly all rows, each other even one at most two, and the odd ones none.
-    Few,
-}
+// The deals. The rows go round the states.
+const TURNS: u64 = 0;
 
-pub enum Order {
-    Forwards,
-    Backwards,
-    // In strides of 7919, which has no divisor in common with the number of rows.
-    Strides,
-}
+// Each state has rows that follow one another; the last may have none.
+const BLOCKS: u64 = 1;
 
-pub enum Tree {
-    // The first state takes all others.
-    First,
-    // The last takes all others, the nearest first.
-    Last,
-    // Each takes the one after it, from the last on.
-    Passed,
-    // State k takes 2k + 2 and 2k + 1, from the last on.
-    Balanced,
-}
+// A scrambled number says which, and the first states have more rows than the last.
+const SCRAMBLED: u64 = 2;
+
+// The first state has nearly all rows, each other even one at most two, and the odd ones none.
+const FEW: u64 = 3;
+
+// The orders of the rows.
+const FORWARDS: u64 = 0;
+
+const BACKWARDS: u64 = 1;
+
+// In strides of 7919, which has no divisor in common with the number of rows.
+const STRIDES: u64 = 2;
+
+// The trees. The first state takes all others.
+const FIRST: u64 = 0;
+
+// The last takes all others, the nearest first.
+const LAST: u64 = 1;
+
+// Each takes the one after it, from the last on.
+const PASSED: u64 = 2;
+
+// State k takes 2k + 2 and 2k + 1, from the last on.
+const BALANCED: u64 = 3;
 
 pub struct Setting {
     pub states: usize,
-    pub deal: Deal,
-    pub order: Order,
-    pub tree: Tree,
-    pub kind: Kind,
+    pub deal: u64,
+    pub order: u64,
+    pub tree: u64,
+    pub kind: u64,
 }
 
 // A state, and the one that it takes.
@@ -48,90 +50,46 @@ pub struct Pair {
     pub other: usize,
 }
 
-// How many states setting k has.
-fn nth_states(k: usize) -> usize {
-    match k / 4 {
-        0 => 1,
-        1 => 2,
-        2 => 3,
-        3 | 4 => 8,
-        _ => 64,
+// Whether five numbers are those of a setting.
+fn is_setting(n: &[u64; 5]) -> bool {
+    if 64 < n[0] {
+        return false;
     }
+    if FEW < n[1] {
+        return false;
+    }
+    if STRIDES < n[2] {
+        return false;
+    }
+    if BALANCED < n[3] {
+        return false;
+    }
+    n[4] <= rows::THIRDS
 }
 
-fn nth_deal(k: usize) -> Deal {
-    match k % 4 {
-        0 => Deal::Turns,
-        1 => Deal::Blocks,
-        2 => Deal::Scrambled,
-        _ => Deal::Few,
+// The setting of a line, after its bar. One that cannot be read has no states.
+pub fn read(s: &[u8], bar: usize) -> Setting {
+    let mut n = [0u64; 5];
+    let r = cases::numbers(s, cases::next(s, bar), false, &mut n);
+    if r.many == 5 {
+        if r.at == s.len() {
+            if is_setting(&n) {
+                return Setting {
+                    states: n[0] as usize,
+                    deal: n[1],
+                    order: n[2],
+                    tree: n[3],
+                    kind: n[4],
+                };
+            }
+        }
     }
-}
-
-fn nth_order(k: usize) -> Order {
-    match k % 3 {
-        0 => Order::Forwards,
-        1 => Order::Backwards,
-        _ => Order::Strides,
-    }
-}
-
-fn nth_tree(k: usize) -> Tree {
-    match k % 4 {
-        0 => Tree::First,
-        1 => Tree::Last,
-        2 => Tree::Passed,
-        _ => Tree::Balanced,
-    }
-}
-
-// Setting k of rows as they are, counted from 1. With each number of states from 2 on, all deals, all orders and
-// all trees occur.
-fn whole(k: usize) -> Setting {
     Setting {
-        states: nth_states(k),
-        deal: nth_deal(k % 4 + k / 4 + 2),
-        order: nth_order(k),
-        tree: nth_tree(k),
-        kind: Kind::Whole,
-    }
-}
-
-// The magnitudes of the same rows, in one state.
-fn magnitudes() -> Setting {
-    Setting {
-        states: 1,
-        deal: Deal::Turns,
-        order: Order::Forwards,
-        tree: Tree::First,
-        kind: Kind::Magnitudes,
-    }
-}
-
-// Thirds of the same rows, dealt in turns.
-fn thirds(states: usize, order: Order, tree: Tree) -> Setting {
-    Setting {
-        states: states,
-        deal: Deal::Turns,
-        order: order,
-        tree: tree,
-        kind: Kind::Thirds,
-    }
-}
-
-pub const SETTINGS: usize = 34;
-
-// Setting k, counted from 1: 27 of rows as they are, one of magnitudes and six of thirds.
-pub fn nth(k: usize) -> Setting {
-    match k {
-        28 => magnitudes(),
-        29 => thirds(1, Order::Forwards, Tree::First),
-        30 => thirds(1, Order::Backwards, Tree::First),
-        31 => thirds(1, Order::Strides, Tree::First),
-        32 => thirds(8, Order::Forwards, Tree::First),
-        33 => thirds(8, Order::Forwards, Tree::Last),
-        34 => thirds(8, Order::Forwards, Tree::Balanced),
-        _ => whole(k),
+        states: 0,
+        deal: TURNS,
+        order: FORWARDS,
+        tree: FIRST,
+        kind: rows::WHOLE,
     }
 }
 
@@ -140,9 +98,9 @@ pub fn row_at(s: Setting, k: usize) -> usize {
     let order = s.order;
     let at = k % rows::ROWS;
     match order {
-        Order::Forwards => at,
-        Order::Backwards => rows::ROWS - 1 - at,
-        Order::Strides => at * 7919 % rows::ROWS,
+        FORWARDS => at,
+        BACKWARDS => rows::ROWS - 1 - at,
+        _ => at * 7919 % rows::ROWS,
     }
 }
 
@@ -178,29 +136,29 @@ pub fn state_of(s: Setting, r: usize) -> usize
     let n = s.states;
     let deal = s.deal;
     match deal {
-        Deal::Turns => modulo(r, n),
-        Deal::Blocks => modulo(r / block(n), n),
-        Deal::Scrambled => modulo(rows::mixed(r, 7), 1 + modulo(rows::mixed(r, 8), n)),
-        Deal::Few => { if r < n { modulo(r / 2 * 2, 64) } else { 0 } }
+        TURNS => modulo(r, n),
+        BLOCKS => modulo(r / block(n), n),
+        SCRAMBLED => modulo(rows::mixed(r, 7), 1 + modulo(rows::mixed(r, 8), n)),
+        _ => { if r < n { modulo(r / 2 * 2, 64) } else { 0 } }
     }
 }
 
 // The k-th combine of so many states, counted from 1.
-fn pair_of(tree: Tree, n: usize, k: usize) -> Pair
+fn pair_of(tree: u64, n: usize, k: usize) -> Pair
     requires { ⌜ (0 < k) × (k < n) × (n ≤ 64) ⌝ }
     ensures { λ r. ⌜ (r .one < 64) × (r .other < 64) ⌝ }
 {
     match tree {
-        Tree::First => Pair { one: 0, other: k },
-        Tree::Last => Pair {
+        FIRST => Pair { one: 0, other: k },
+        LAST => Pair {
             one: n - 1,
             other: n - 1 - k,
         },
-        Tree::Passed => Pair {
+        PASSED => Pair {
             one: n - 1 - k,
             other: n - k,
         },
-        Tree::Balanced => Pair {
+        _ => Pair {
             one: (n - 1 - k) / 2,
             other: n - k,
         },
@@ -229,7 +187,7 @@ pub fn root(s: Setting) -> usize
 {
     let tree = s.tree;
     let n = s.states;
-    if let Tree::Last = tree {
+    if tree == LAST {
         if 0 < n {
             if n <= 64 {
                 return n - 1;

@@ -4,6 +4,7 @@
 use crate::rows;
 use aggregate_svecf32::Header;
 use aggregate_svecf32::Told;
+ghost use Prim.Native.Nat.{_≤_};
 
 // The lists of a pair: 48 places for each of 64 states.
 pub type Indexes = [u32; 3072];
@@ -49,11 +50,11 @@ fn step_of(told: Told, done_in_b: bool, refused_in_b: bool) -> Step {
 // Moves a state to the other pair, with the capacity for `more` entries more.
 fn move_over(
     s: State,
-    ai: &[u32],
-    av: &[f32],
+    ai: &Indexes,
+    av: &Values,
     more: usize,
-    bi: &mut [u32],
-    bv: &mut [f32],
+    bi: &mut Indexes,
+    bv: &mut Values,
 ) -> Step {
     let h = s.header;
     step_of(
@@ -64,62 +65,65 @@ fn move_over(
 }
 
 // Brings a state to the other pair as it is: a state without rows takes it there.
-fn bring(s: State, ai: &[u32], av: &[f32], bi: &mut [u32], bv: &mut [f32]) -> Step {
+fn bring(s: State, ai: &Indexes, av: &Values, bi: &mut Indexes, bv: &mut Values) -> Step {
     let h = s.header;
     let fresh = aggregate_svecf32::fresh(h.start, h.length);
     step_of(fresh.combine(bi, bv, h, ai, av), !s.in_b, !s.in_b)
 }
 
-fn row(s: State, ai: &mut [u32], av: &mut [f32], xi: &[u32], xv: &[f32]) -> Step {
-    step_of(s.header.row(ai, av, rows::DIMS, xi, xv), s.in_b, s.in_b)
-}
-
-// Feeds a row to a state. On NEED the state moves, and is fed again.
-fn feed_row(
+// Feeds to a state the row of the first n entries of two lists.
+fn row(
     s: State,
     ai: &mut Indexes,
     av: &mut Values,
-    bi: &mut Indexes,
-    bv: &mut Values,
-    xi: &[u32],
-    xv: &[f32],
-) -> Step {
-    let fed = row(s, ai, av, xi, xv);
-    if fed.number != refusal::NEED {
-        return fed;
-    }
-    let moved = move_over(fed.state, ai, av, xi.len(), bi, bv);
-    if moved.number != refusal::DONE {
-        return moved;
-    }
-    row(moved.state, bi, bv, xi, xv)
+    xi: &[u32; 12],
+    xv: &[f32; 12],
+    n: usize,
+) -> Step
+    requires { ⌜ n ≤ 12 ⌝ }
+{
+    let i = &xi[..];
+    let v = &xv[..];
+    step_of(
+        s.header.row(ai, av, rows::DIMS, &i[0..n], &v[0..n]),
+        s.in_b,
+        s.in_b,
+    )
 }
 
-// Feeds to a state the row of the first n entries of two lists.
+// Feeds a row to a state. On NEED the state moves, and is fed again.
 pub fn feed(
     s: State,
     ai: &mut Indexes,
     av: &mut Values,
     bi: &mut Indexes,
     bv: &mut Values,
-    xi: &[u32],
-    xv: &[f32],
+    xi: &[u32; 12],
+    xv: &[f32; 12],
     n: usize,
-) -> Step {
-    if n <= xi.len() {
-        if n <= xv.len() {
-            return feed_row(s, ai, av, bi, bv, &xi[0..n], &xv[0..n]);
-        }
+) -> Step
+    requires { ⌜ n ≤ 12 ⌝ }
+{
+    let fed = row(s, ai, av, xi, xv, n);
+    if fed.number != refusal::NEED {
+        return fed;
     }
-    Step {
-        state: s,
-        number: refusal::ROOM,
-        place: n,
+    let moved = move_over(fed.state, ai, av, n, bi, bv);
+    if moved.number != refusal::DONE {
+        return moved;
     }
+    row(moved.state, bi, bv, xi, xv, n)
 }
 
 // Combines a second state, which lies in the other pair, into a state.
-fn take(s: State, ai: &mut [u32], av: &mut [f32], other: State, bi: &[u32], bv: &[f32]) -> Step {
+fn take(
+    s: State,
+    ai: &mut Indexes,
+    av: &mut Values,
+    other: State,
+    bi: &Indexes,
+    bv: &Values,
+) -> Step {
     step_of(
         s.header.combine(ai, av, other.header, bi, bv),
         s.in_b,

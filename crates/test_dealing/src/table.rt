@@ -2,7 +2,6 @@
 // 48 places from 48 * i on in either pair of lists.
 
 use crate::rows;
-use crate::rows::Kind;
 use crate::settings;
 use crate::settings::Setting;
 use crate::states;
@@ -10,6 +9,7 @@ use crate::states::Indexes;
 use crate::states::State;
 use crate::states::Step;
 use crate::states::Values;
+ghost use Prim.Native.Nat.{_≤_};
 
 // What happened so far: how many states moved to take a row and how many to take a state, and how many second
 // states were brought to the other pair; and the refusal that ended it, or DONE.
@@ -97,7 +97,9 @@ fn feed(
     xi: &[u32; 12],
     xv: &[f32; 12],
     n: usize,
-) -> Step {
+) -> Step
+    requires { ⌜ n ≤ 12 ⌝ }
+{
     if s.in_b {
         return states::feed(s, bi, bv, ai, av, xi, xv, n);
     }
@@ -112,7 +114,7 @@ fn feed_row(
     bi: &mut Indexes,
     bv: &mut Values,
     r: usize,
-    kind: Kind,
+    kind: u64,
 ) -> Step {
     let mut xi = [0u32; 12];
     let mut xv = [0.0f32; 12];

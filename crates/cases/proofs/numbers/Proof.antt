@@ -20,8 +20,8 @@ loop-holds c = omega arith
 number-requires : tie.Need-number-requires Inv-loop μ-loop
 number-requires c κs = search needs
 
-ends-requires : tie.Need-ends-requires Inv-loop μ-loop
-ends-requires c κs = search needs
+is-number-requires : tie.Need-is-number-requires Inv-loop μ-loop
+is-number-requires c κs = search needs
 
 mul-list : tie.Need-mul-list Inv-loop μ-loop
 mul-list c = omega arith
@@ -61,7 +61,7 @@ numbers-spec =
     μ-loop
     loop-holds
     number-requires
-    ends-requires
+    is-number-requires
     mul-list
     slice-write-list
     add-many

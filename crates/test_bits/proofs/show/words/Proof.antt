@@ -1,5 +1,5 @@
--- `words` is safe and ends. The loop's invariant: `i` is at most the length. The measure is what is left of the length.
-use Prim.Native.Nat.{_≤_, _-_}
+-- `words` is safe and ends. The loop has nothing to keep. The measure is what is left of the length. Assumes nothing.
+use Prim.Native.Nat.{_-_}
 use borrow.Author.Needs.{needs}
 use native.Mathlib.Omega.{arith}
 use lib.ListN.{length}
@@ -7,13 +7,13 @@ use Rattle.test_bits.proofs.show.words.Statement.{statement}
 use Rattle.test_bits.proofs.show.words.Tie as tie
 
 abbrev Inv-loop : tie.InvT-loop
-Inv-loop a i₀ i = i ≤ length a
+Inv-loop a from i₀ i = Unit
 
 abbrev μ-loop : tie.MeasureT-loop
-μ-loop a i₀ i = length a - i
+μ-loop a from i₀ i = length a - i
 
 loop-holds : tie.Need-loop-holds Inv-loop μ-loop
-loop-holds c = omega arith
+loop-holds c = tt
 
 mul-word : tie.Need-mul-word Inv-loop μ-loop
 mul-word c = search needs
@@ -31,7 +31,7 @@ loop-less : tie.Need-loop-less Inv-loop μ-loop
 loop-less c = omega arith
 
 loop-again : tie.Need-loop-again Inv-loop μ-loop
-loop-again c = omega arith
+loop-again c = tt
 
 returns : tie.Need-returns Inv-loop μ-loop
 returns c = search needs

@@ -1,12 +1,12 @@
--- `row` is safe and ends. The loop has nothing to keep. The measure is how many entries more there can be. Assumes nothing.
-use Prim.Native.Nat.{_-_}
+-- `row` is safe and ends. The loop's invariant: there are at most 12 entries. The measure is how many entries more there can be. Assumes nothing.
+use Prim.Native.Nat.{_≤_, _-_}
 use borrow.Author.Needs.{needs}
 use native.Mathlib.Omega.{arith}
 use Rattle.test_dealing.proofs.rows.row.Statement.{statement}
 use Rattle.test_dealing.proofs.rows.row.Tie as tie
 
 abbrev Inv-loop : tie.InvT-loop
-Inv-loop r kind indexes₀ values₀ n i₀ at₀ indexes values i at = Unit
+Inv-loop r kind indexes₀ values₀ n i₀ at₀ indexes values i at = at ≤ 12
 
 abbrev μ-loop : tie.MeasureT-loop
 μ-loop r kind indexes₀ values₀ n i₀ at₀ indexes values i at = 12 - at
@@ -18,7 +18,7 @@ mixed-requires-2 : tie.Need-mixed-requires-2 Inv-loop μ-loop
 mixed-requires-2 c κs = search needs
 
 loop-holds : tie.Need-loop-holds Inv-loop μ-loop
-loop-holds c = tt
+loop-holds c = omega arith
 
 cast-indexes : tie.Need-cast-indexes Inv-loop μ-loop
 cast-indexes c = search needs
@@ -51,7 +51,7 @@ loop-less : tie.Need-loop-less Inv-loop μ-loop
 loop-less c = omega arith
 
 loop-again : tie.Need-loop-again Inv-loop μ-loop
-loop-again c = tt
+loop-again c = omega arith
 
 returns : tie.Need-returns Inv-loop μ-loop
 returns c = search needs
