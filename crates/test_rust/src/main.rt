@@ -50,8 +50,8 @@ ghost use lib.ListN.{length};
 
 // Answers a request. Answers whether it is one.
 fn answer(s: &[u8]) -> bool {
-    let file = names::name(s, 0);
-    let call = names::name(s, cases::after(s, file.at, b' '));
+    let file = cases::name(s, 0);
+    let call = cases::name(s, cases::after(s, file.at, b' '));
     let from = cases::after(s, call.at, b' ');
     match names::file_of(file.value) {
         File::Svect => svect_calls::case(s, from, names::call_of(call.value)),

@@ -1,8 +1,4 @@
-// Reads names. A name goes up to a space or the end, and is told by its last eight letters: they are the digits
-// of a number of base 256. So `bit` is 0x626974, as `b` is 0x62, `i` is 0x69 and `t` is 0x74.
-
-use cases::Numeral;
-ghost use Prim.Native.Nat.{_<_};
+// The names of files, calls and steps, as the numbers that `cases` makes of them.
 
 // The Rust's file.
 pub enum File {
@@ -45,29 +41,6 @@ pub enum Step {
     Sum,
     Average,
     Unknown,
-}
-
-fn wide(c: u8) -> u64
-    ensures { λ r. ⌜ r < 256 ⌝ }
-{
-    c as u64
-}
-
-// A name as a number, and the place after it.
-pub fn name(s: &[u8], from: usize) -> Numeral {
-    let mut value: u64 = 0;
-    let mut at = from;
-    while at < s.len() {
-        if s[at] == b' ' {
-            break;
-        }
-        value = value % 72057594037927936 * 256 + wide(s[at]);
-        at += 1;
-    }
-    Numeral {
-        value: value,
-        at: at,
-    }
 }
 
 pub fn file_of(name: u64) -> File {

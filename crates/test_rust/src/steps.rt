@@ -37,7 +37,7 @@ fn after_step(s: &[u8], step: Step, from: usize) -> usize {
 // The step after the bar that stands at a place.
 pub fn step_at(s: &[u8], at: usize) -> Found {
     let bar = cases::after(s, at, b'|');
-    let name = names::name(s, cases::after(s, bar, b' '));
+    let name = cases::name(s, cases::after(s, bar, b' '));
     let from = cases::after(s, name.at, b' ');
     let step = names::step_of(name.value);
     let end = after_step(s, step, from);
