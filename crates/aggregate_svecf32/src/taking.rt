@@ -28,9 +28,7 @@ fn begin(
     if h.length < capacity {
         return Told::Refused(h, refusal::ROOM, capacity);
     }
-    let start = h.start;
-    let end = start + h.length;
-    regions::copy(bi, bv, &mut ai[start..end], &mut av[start..end]);
+    regions::copy(bi, bv, 0, bi.len(), ai, av, h.start);
     Told::Done(
         states::begun(h.start, h.length, dims, bi.len(), capacity, count),
         bi.len(),
