@@ -151,10 +151,7 @@ impl Header {
         }
         regions::copy(ai, av, self.start, self.len, ci, cv, start);
         let capacity = regions::capacity(self.dims, self.len + more);
-        Told::Done(
-            states::begun(start, length, self.dims, self.len, capacity, self.count),
-            0,
-        )
+        states::done(start, length, self.dims, self.len, capacity, self.count, 0)
     }
 
     // Writes the sum of the rows to the front of `oi` and `ov`, and answers its dims and entries. The

@@ -29,10 +29,7 @@ fn begin(
         return Told::Refused(h, refusal::ROOM, capacity);
     }
     regions::copy(bi, bv, 0, bi.len(), ai, av, h.start);
-    Told::Done(
-        states::begun(h.start, h.length, dims, bi.len(), capacity, count),
-        bi.len(),
-    )
+    states::done(h.start, h.length, dims, bi.len(), capacity, count, bi.len())
 }
 
 // A state that has begun merges the entries, and its count rises by `more`.
@@ -71,8 +68,7 @@ fn merge(
         bi,
         bv,
     );
-    let new = states::begun(h.start, h.length, dims, m.len, h.capacity, count);
-    Told::Done(new, m.turns)
+    states::done(h.start, h.length, dims, m.len, h.capacity, count, m.turns)
 }
 
 // The state takes the entries in, and its count rises by `more`.

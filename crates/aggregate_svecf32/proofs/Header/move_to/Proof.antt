@@ -63,8 +63,8 @@ add-capacity c =
 capacity-requires : tie.Need-capacity-requires
 capacity-requires c κs = search needs
 
-begun-requires : tie.Need-begun-requires
-begun-requires c κs = search needs
+done-requires : tie.Need-done-requires
+done-requires c κs = search needs
 
 same-length-3 : tie.Need-same-length-3
 same-length-3 c = search needs
@@ -77,7 +77,7 @@ returns-2 c =
     let f = c .before .before .before .before .before .before .before in
     let t = f .before .before .before in
     let a = start t .args in
-    rw (c .begun .ensures, c .before .capacity .ensures)
+    rw (c .done .ensures, c .before .capacity .ensures)
     (move-done (a .self) (old (start t)) (a .more) (lists (start t)) (a .start) (a .length) (known t) (due t) (f .copy .ensures))
 
 pub move-to-spec : {M : Type 1} → statement M
@@ -93,7 +93,7 @@ move-to-spec =
     copy-requires
     add-capacity
     capacity-requires
-    begun-requires
+    done-requires
     same-length-3
     same-length-4
     returns-2)

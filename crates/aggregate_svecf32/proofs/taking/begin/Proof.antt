@@ -38,8 +38,8 @@ copy-requires c κs =
     let s = start (l .before .before) in
     begin-fits (s .args .h) (lists s) (row s) (s .args .count) (s .pre) (roomy l)
 
-begun-requires : tie.Need-begun-requires
-begun-requires c κs = search needs
+done-requires : tie.Need-done-requires
+done-requires c κs = search needs
 
 same-length : tie.Need-same-length
 same-length c = search needs
@@ -53,7 +53,7 @@ returns-2 c =
     let l = f .before .before .before in
     let k = l .before .before in
     let s = start k in
-    rw (c .begun .ensures, k .capacity .ensures)
+    rw (c .done .ensures, k .capacity .ensures)
     (begin-done (s .args .h) (lists s) (row s) (s .args .count) (s .pre) (roomy l) (f .copy .ensures))
 
 pub begin-spec : {M : Type 1} → statement M
@@ -63,7 +63,7 @@ begin-spec =
     capacity-requires
     returns
     copy-requires
-    begun-requires
+    done-requires
     same-length
     same-length-2
     returns-2)
