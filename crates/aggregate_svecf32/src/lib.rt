@@ -142,8 +142,8 @@ impl Header {
             ai,
             av,
             more,
-            ci,
-            cv,
+            ci.len(),
+            cv.len(),
             start,
             length,
         ) {

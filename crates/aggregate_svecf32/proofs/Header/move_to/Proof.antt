@@ -1,5 +1,5 @@
 -- `Header::move_to` meets its contract: after the tests the entries that the state holds are copied to the new region. Assumes nothing.
-use mathlib.Core.Path.{_≡_, sym, _∙_}
+use mathlib.Core.Path.{_≡_, refl, sym, _∙_}
 use borrow.Author.Needs.{needs}
 use Rattle.refusal.specs.declared.Checked.the-variants.{Valid}
 use Rattle.regions.specs.Regions.{Pair, pair}
@@ -10,7 +10,7 @@ use Rattle.aggregate_svecf32.proofs.Header.move_to.Statement.{statement
 use Rattle.aggregate_svecf32.proofs.Header.move_to.Tie as tie
 
 abbrev start : tie.After-enum-told → tie.Start
-start c = c .before .before .before .before .before .before .before .before .before
+start c = c .before .before .before .before .before .before .before
 
 -- the lists of the state, and those that it moves to
 abbrev old : tie.Start → Pair
@@ -22,7 +22,7 @@ lists s = pair (s .args .ci .now) (s .args .cv .now)
 -- the tests found nothing
 due : (c : tie.After-enum-told) → let s = start c in let a = s .args in
     moveOf (a .self) (old s) (a .more) (lists s) (a .start) (a .length) ≡ Valid
-due c = sym (c .before .before .ready .ensures .answer) ∙ c .enum-told .given .1
+due c = sym (c .before .before .ready .ensures (lists (start c)) refl refl .answer) ∙ c .enum-told .given .1
 
 known : (c : tie.After-enum-told) → let s = start c in let a = s .args in
     Moving (a .self) (old s) (a .more) (lists s) (a .start) (a .length)
@@ -34,14 +34,11 @@ ready-requires c κs = search needs
 enum-known-number : tie.Need-enum-known-number
 enum-known-number c = search needs
 
-same-length : tie.Need-same-length
-same-length c = search needs
-
-same-length-2 : tie.Need-same-length-2
-same-length-2 c = search needs
-
 returns : tie.Need-returns
-returns c = acts-refused _ (sym (c .before .before .before .ready .ensures .answer) ∙ c .before .number .given .1)
+returns c =
+    let k = c .before .before .before in
+    let l = lists (k .before .before .before .before .before) in
+    acts-refused _ (sym (k .ready .ensures l refl refl .answer) ∙ c .before .number .given .1)
 
 enum-told : tie.Need-enum-told
 enum-told c = search needs
@@ -66,11 +63,11 @@ capacity-requires c κs = search needs
 done-requires : tie.Need-done-requires
 done-requires c κs = search needs
 
-same-length-3 : tie.Need-same-length-3
-same-length-3 c = search needs
+same-length : tie.Need-same-length
+same-length c = search needs
 
-same-length-4 : tie.Need-same-length-4
-same-length-4 c = search needs
+same-length-2 : tie.Need-same-length-2
+same-length-2 c = search needs
 
 returns-2 : tie.Need-returns-2
 returns-2 c =
@@ -86,14 +83,12 @@ move-to-spec =
     (tie.spec
     ready-requires
     enum-known-number
-    same-length
-    same-length-2
     returns
     enum-told
     copy-requires
     add-capacity
     capacity-requires
     done-requires
-    same-length-3
-    same-length-4
+    same-length
+    same-length-2
     returns-2)
