@@ -1,13 +1,11 @@
 -- What a call on a state has to show, once for all calls: after a refusal nothing changed, and else its vector stands in the lists. And two
 -- outcomes that a call may have are equal, but in the open places of the lists. Assumes nothing.
-use Prim.Native.Nat.{ℕ, _+_, _≤_}
-use native.Mathlib.Omega.{arith}
+use Prim.Native.Nat.{ℕ, _+_}
 use mathlib.Core.Bool.{Bool, true, false, cond}
-use mathlib.Core.List.{List, [], _∷_, _++_}
+use mathlib.Core.List.{List}
 use mathlib.Core.Path.{_≡_, refl, sym, ap, ap₂, _∙_}
 use lib.Dec.{eqb}
 use lib.ListN.{length, take, drop, getD}
-use lib.Ieee.{Float}
 use borrow.Author.Tests.{ne-eqb}
 use Rattle.refusal.specs.Answers.{Says, Answers}
 use Rattle.refusal.specs.declared.Checked.{Checked}
@@ -15,7 +13,7 @@ use Rattle.refusal.specs.declared.Checked.the-variants.{Valid, Refused}
 use Rattle.refusal.proofs.Told.{answered}
 use Rattle.refusal.proofs.Only.{one-answer}
 use Rattle.refusal.proofs.Decides.{decided}
-use Rattle.sparse.specs.Vectors.{Vector, size}
+use Rattle.sparse.specs.Vectors.{size}
 use Rattle.regions.specs.Loops.{Copied}
 use Rattle.regions.specs.Regions.{Pair, pair, part, Stands}
 use Rattle.regions.proofs.Stands.{stands-one, stands-same}
@@ -76,7 +74,7 @@ module _ {h : Header} {due : Checked} (d : Deed) {p : Pair} where
         values = rw e vs;
       }
 
--- ---- a vector that is copied: the n entries from `from` on of other lists
+-- ---- a vector that is copied: the entries of other lists from `from` on
 
 pub acts-copied : {h : Header} {due : Checked} (d : Deed) {o p q : Pair} {from : ℕ}
     → part from (d .room) (o .indexes) ≡ d .vector .indexes → part from (d .room) (o .values) ≡ d .vector .values

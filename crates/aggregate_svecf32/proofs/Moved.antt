@@ -15,7 +15,7 @@ use Rattle.regions.specs.Loops.{Fitting, Copied}
 use Rattle.regions.specs.Regions.{Pair, inside}
 use Rattle.regions.proofs.Capacities.{cap-more}
 use Rattle.regions.proofs.Stands.{inside-both}
-use Rattle.aggregate_svecf32.specs.States.{held, stateOf}
+use Rattle.aggregate_svecf32.specs.States.{stateOf}
 use Rattle.aggregate_svecf32.specs.Calls.{spare, moveOf, moved, Moves}
 use Rattle.aggregate_svecf32.specs.declared.Header.{Header}
 use Rattle.aggregate_svecf32.specs.declared.Told.{Told}
