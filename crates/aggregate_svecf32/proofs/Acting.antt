@@ -1,13 +1,11 @@
 -- What a call on a state has to show, once for all calls: after a refusal nothing changed, and else its vector stands in the lists. And two
 -- outcomes that a call may have are equal, but in the open places of the lists. Assumes nothing.
-use Prim.Native.Nat.{ℕ, _+_, _≤_}
-use native.Mathlib.Omega.{arith}
+use Prim.Native.Nat.{ℕ, _+_}
 use mathlib.Core.Bool.{Bool, true, false, cond}
-use mathlib.Core.List.{List, [], _∷_, _++_}
+use mathlib.Core.List.{List}
 use mathlib.Core.Path.{_≡_, refl, sym, ap, ap₂, _∙_}
 use lib.Dec.{eqb}
 use lib.ListN.{length, take, drop, getD}
-use lib.Ieee.{Float}
 use borrow.Author.Tests.{ne-eqb}
 use Rattle.refusal.specs.Answers.{Says, Answers}
 use Rattle.refusal.specs.declared.Checked.{Checked}
@@ -15,10 +13,10 @@ use Rattle.refusal.specs.declared.Checked.the-variants.{Valid, Refused}
 use Rattle.refusal.proofs.Told.{answered}
 use Rattle.refusal.proofs.Only.{one-answer}
 use Rattle.refusal.proofs.Decides.{decided}
-use Rattle.sparse.specs.Vectors.{Vector, size}
-use Rattle.regions.specs.Loops.{Fitting, Copied}
+use Rattle.sparse.specs.Vectors.{size}
+use Rattle.regions.specs.Loops.{Copied}
 use Rattle.regions.specs.Regions.{Pair, pair, part, Stands}
-use Rattle.regions.proofs.Stands.{lent, part-length, stands-copied, stands-lent, stands-one, stands-same}
+use Rattle.regions.proofs.Stands.{stands-one, stands-same}
 use Rattle.aggregate_svecf32.specs.States.{numbersOf, headerFrom}
 use Rattle.aggregate_svecf32.specs.Calls.{Deed, toldSays, toldTells, toldOf, Left, Acts}
 use Rattle.aggregate_svecf32.specs.declared.Header.{Header}
@@ -76,41 +74,12 @@ module _ {h : Header} {due : Checked} (d : Deed) {p : Pair} where
         values = rw e vs;
       }
 
--- ---- a vector that is copied
+-- ---- a vector that is copied: the entries of other lists from `from` on
 
--- the k places from `start` on lie inside both lists, and have room for v
-pub record Hosts (p : Pair) (start k : ℕ) (v : Vector) : Type 0 where
-  pub even : size v ≡ length (v .values)
-  pub short : size v ≤ k
-  pub indexes : start + k ≤ length (p .indexes)
-  pub values : start + k ≤ length (p .values)
-
-pub hosts-fitting : {p : Pair} {start k : ℕ} {v : Vector} → Hosts p start k v
-    → Fitting (v .indexes) (v .values) (part start k (p .indexes)) (part start k (p .values))
-hosts-fitting {p} {start} {k} s =
-    record {
-      even = s .even;
-      room = rw (part-length start k (p .indexes) (s .indexes)) (s .short);
-      room′ = rw (part-length start k (p .values) (s .values)) (s .short);
-    }
-
--- what is copied to the front of a part that was lent stands in the whole list
-copied-lent {ℓ} : {A : Type ℓ} {start k n : ℕ} {xs l ys : List A} → start + k ≤ length l → n ≡ length xs → n ≤ k
-    → ys ≡ xs ++ drop (length xs) (part start k l) → Stands start n xs l (lent start k l ys)
-copied-lent {start = start} {k} {xs = xs} {l} fits e h c =
-    rw e (stands-lent fits (omega arith) (omega arith) (stands-copied c (omega (arith, part-length start k l fits))))
-
--- the part of the lists was lent, and the vector copied to its front
-pub acts-copied : {h : Header} {due : Checked} (d : Deed) {p : Pair} {k : ℕ} {yi : List ℕ} {yv : List Float}
-    → let start = d .header .start in
-    due ≡ Valid → d .room ≡ size (d .vector) → Hosts p start k (d .vector)
-    → Copied (d .vector .indexes) (d .vector .values) (part start k (p .indexes)) (part start k (p .values)) yi yv
-    → Acts h due d p (Done (d .header) (d .turns)) (pair (lent start k (p .indexes) yi) (lent start k (p .values) yv))
-acts-copied d e filled s c =
-    let short = s .short in
-    acts-done d e
-    (copied-lent (s .indexes) filled (omega arith) (c .indexes))
-    (copied-lent (s .values) (filled ∙ s .even) (omega arith) (c .values))
+pub acts-copied : {h : Header} {due : Checked} (d : Deed) {o p q : Pair} {from : ℕ}
+    → part from (d .room) (o .indexes) ≡ d .vector .indexes → part from (d .room) (o .values) ≡ d .vector .values
+    → due ≡ Valid → Copied from (d .room) o (d .header .start) p q → Acts h due d p (Done (d .header) (d .turns)) q
+acts-copied d is vs e c = acts-done d e (rw is at (c .indexes)) (rw vs at (c .values))
 
 -- ---- what two outcomes have in common
 

@@ -1,6 +1,6 @@
 -- Sum and average: what is known where their tests find nothing, and what they leave. Assumes nothing.
 use Prim.Native.Nat.{ℕ, _≤_}
-use native.Mathlib.Nat.{add-sub-cancel-left}
+use native.Mathlib.Omega.{arith}
 use mathlib.Core.Bool.{not}
 use mathlib.Core.List.{List}
 use mathlib.Core.Path.{_≡_, sym, subst, _∙_}
@@ -16,7 +16,8 @@ use Rattle.sparse.specs.Calls.{roomOf}
 use Rattle.sparse.specs.Vectors.{Vector}
 use Rattle.sparse.proofs.Writes.{room-passed, done}
 use Rattle.regions.specs.Loops.{Fitting, Copied}
-use Rattle.regions.specs.Regions.{Pair}
+use Rattle.regions.specs.Regions.{Pair, pair}
+use Rattle.regions.proofs.Stands.{front-stands}
 use Rattle.averages.specs.Averages.{shared}
 use Rattle.averages.specs.Loops.{Divides, Divided}
 use Rattle.averages.proofs.Shares.{shared-many}
@@ -24,7 +25,7 @@ use Rattle.aggregate_svecf32.specs.States.{held, stateOf}
 use Rattle.aggregate_svecf32.specs.Calls.{finishOf, Sums, Averages}
 use Rattle.aggregate_svecf32.specs.declared.Header.{Header}
 use Rattle.aggregate_svecf32.proofs.Consistent.{Sure, held-cut, state-sure}
-use Rattle.aggregate_svecf32.proofs.Held.{cut}
+use Rattle.aggregate_svecf32.proofs.Held.{cut, ends-inside}
 
 -- a state that has begun, and room for its entries in two lists of so many indexes and values
 record Finishes (h : Header) (p : Pair) (indexes values : ℕ) : Type 0 where
@@ -47,11 +48,10 @@ module _ (h : Header) (p : Pair) (oi : List ℕ) (ov : List Float) (due : finish
   pub finish-sure : Sure h p
   finish-sure = known .sure
 
-  pub sum-fits : Fitting (cut h p .indexes) (cut h p .values) oi ov
+  pub sum-fits : Fitting (h .start) (h .len) p 0 (pair oi ov)
   sum-fits =
-      let s = known .sure in
-      rw (add-sub-cancel-left (h .start) (h .len))
-      (record { even = s .many ∙ sym (s .many′); room = rw (s .many) (known .room); room′ = rw (s .many) (known .room′) })
+      let e = ends-inside (known .sure) in
+      record { indexes = e .0; values = e .1; room = omega (arith, known .room); room′ = omega (arith, known .room′) }
 
   pub average-fits : Divides (cut h p) (h .count) oi ov
   average-fits =
@@ -60,11 +60,10 @@ module _ (h : Header) (p : Pair) (oi : List ℕ) (ov : List Float) (due : finish
       (record { sound = s .fair .sound; most = s .fair .most; room = rw (s .many) (known .room); room′ = rw (s .many) (known .room′) })
 
   module _ {oi′ : List ℕ} {ov′ : List Float} where
-    pub sum-done : Copied (cut h p .indexes) (cut h p .values) oi ov oi′ ov′ → Sums h p oi ov (Done (h .dims) (h .len)) oi′ ov′
+    pub sum-done : Copied (h .start) (h .len) p 0 (pair oi ov) (pair oi′ ov′) → Sums h p oi ov (Done (h .dims) (h .len)) oi′ ov′
     sum-done c =
         let s = known .sure in
-        let d : Copied (held h p .indexes) (held h p .values) oi ov oi′ ov′ = rw (add-sub-cancel-left (h .start) (h .len)) at c in
-        done (held h p) due (sym (s .many)) (s .many′ ∙ sym (s .many)) (rw (s .many) at (d .indexes)) (rw (s .many′) at (d .values))
+        done (held h p) due (sym (s .many)) (s .many′ ∙ sym (s .many)) (front-stands (s .many) (c .indexes)) (front-stands (s .many′) (c .values))
 
     pub average-done : {n : ℕ} → Divided (shared (h .count) (cut h p)) oi ov n oi′ ov′ → Averages h p oi ov (Done (h .dims) n) oi′ ov′
     average-done {n} c =

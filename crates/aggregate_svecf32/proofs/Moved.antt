@@ -1,13 +1,10 @@
 -- A move: what is known where its tests find nothing, and what it leaves. Assumes nothing.
-use Prim.Native.Nat.{ℕ, _+_, _-_, _≤_}
-use native.Mathlib.Nat.{add-sub-cancel-left}
+use Prim.Native.Nat.{ℕ, _+_, _≤_}
 use native.Mathlib.Omega.{arith}
 use mathlib.Core.Bool.{not}
-use mathlib.Core.List.{List}
-use mathlib.Core.Path.{_≡_, sym, _∙_}
+use mathlib.Core.Path.{_≡_, refl}
 use lib.Dec.{ltb}
 use lib.ListN.{length}
-use lib.Ieee.{Float}
 use borrow.Author.Tests.{ltb-false, not-false}
 use Rattle.refusal.specs.Numbers.{NOT_BEGUN, DIMS, NOT_NEEDED, ROOM}
 use Rattle.refusal.specs.declared.Checked.the-variants.{Valid}
@@ -15,17 +12,17 @@ use Rattle.refusal.proofs.Chains.{next-valid, refuse-valid}
 use Rattle.sparse.proofs.Checks.{size-most}
 use Rattle.regions.specs.Capacity.{capacityFor}
 use Rattle.regions.specs.Loops.{Fitting, Copied}
-use Rattle.regions.specs.Regions.{Pair, pair, part, inside}
+use Rattle.regions.specs.Regions.{Pair, inside}
 use Rattle.regions.proofs.Capacities.{cap-more}
-use Rattle.regions.proofs.Stands.{lent, inside-both}
-use Rattle.aggregate_svecf32.specs.States.{held, stateOf}
+use Rattle.regions.proofs.Stands.{inside-both}
+use Rattle.aggregate_svecf32.specs.States.{stateOf}
 use Rattle.aggregate_svecf32.specs.Calls.{spare, moveOf, moved, Moves}
 use Rattle.aggregate_svecf32.specs.declared.Header.{Header}
 use Rattle.aggregate_svecf32.specs.declared.Told.{Told}
 use Rattle.aggregate_svecf32.specs.declared.Told.the-variants.{Done}
 use Rattle.aggregate_svecf32.proofs.Consistent.{Sure, state-sure}
-use Rattle.aggregate_svecf32.proofs.Held.{cut}
-use Rattle.aggregate_svecf32.proofs.Acting.{Hosts, hosts-fitting, acts-copied, one-filled}
+use Rattle.aggregate_svecf32.proofs.Held.{ends-inside}
+use Rattle.aggregate_svecf32.proofs.Acting.{acts-copied, one-filled}
 
 -- no more entries than places
 pub sure-few : {h : Header} {p : Pair} → Sure h p → (h .len ≤ h .dims) × (h .dims ≤ 1048575)
@@ -59,28 +56,22 @@ module _ (h : Header) (p : Pair) (n : ℕ) (q : Pair) (start long : ℕ) where
       }
 
   module _ (m : Moving h p n q start long) where
-    -- the region, lent as the places from its start up to its end, has room for the entries
-    hosts : Hosts q start ((start + long) - start) (held h p)
-    hosts =
+    -- the new region has room for the entries
+    pub move-fits : Fitting (h .start) (h .len) p start q
+    move-fits =
         let s = m .sure in
-        let few = sure-few s .0 in
+        let e = ends-inside s in
+        let few = cap-more (h .dims) (h .len) n (sure-few s .0) in
         record {
-          even = s .many ∙ sym (s .many′);
-          short = omega (arith, s .many, cap-more (h .dims) (h .len) n few, m .room);
-          indexes = omega (arith, m .indexes);
-          values = omega (arith, m .values);
+          indexes = e .0;
+          values = e .1;
+          room = omega (arith, few, m .room, m .indexes);
+          room′ = omega (arith, few, m .room, m .values);
         }
 
-    pub move-fits : Fitting (cut h p .indexes) (cut h p .values) (part start ((start + long) - start) (q .indexes))
-        (part start ((start + long) - start) (q .values))
-    move-fits = rw (add-sub-cancel-left (h .start) (h .len)) (hosts-fitting hosts)
-
-    pub move-done : moveOf h p n q start long ≡ Valid → {yi : List ℕ} {yv : List Float} → let k = (start + long) - start in
-        Copied (cut h p .indexes) (cut h p .values) (part start k (q .indexes)) (part start k (q .values)) yi yv
-        → Moves h p n q start long (Done (moved h p n start long .header) 0) (pair (lent start k (q .indexes) yi) (lent start k (q .values) yv))
-    move-done due {yi} {yv} c =
-        acts-copied (moved h p n start long) due (sym (m .sure .many)) hosts
-        (rw (add-sub-cancel-left (h .start) (h .len)) at c)
+    pub move-done : moveOf h p n q start long ≡ Valid → {o : Pair} → Copied (h .start) (h .len) p start q o
+        → Moves h p n q start long (Done (moved h p n start long .header) 0) o
+    move-done due c = acts-copied (moved h p n start long) refl refl due c
 
   -- two outcomes that a move may have are equal
   pub one-move : {r s : Told} {a b : Pair} → Moves h p n q start long r a → Moves h p n q start long s b → (r ≡ s) × (a ≡ b)

@@ -142,27 +142,16 @@ impl Header {
             ai,
             av,
             more,
-            ci,
-            cv,
+            ci.len(),
+            cv.len(),
             start,
             length,
         ) {
             return Told::Refused(self, number, place);
         }
-        let from = self.start;
-        let end = from + self.len;
-        let new_end = start + length;
-        regions::copy(
-            &ai[from..end],
-            &av[from..end],
-            &mut ci[start..new_end],
-            &mut cv[start..new_end],
-        );
+        regions::copy(ai, av, self.start, self.len, ci, cv, start);
         let capacity = regions::capacity(self.dims, self.len + more);
-        Told::Done(
-            states::begun(start, length, self.dims, self.len, capacity, self.count),
-            0,
-        )
+        states::done(start, length, self.dims, self.len, capacity, self.count, 0)
     }
 
     // Writes the sum of the rows to the front of `oi` and `ov`, and answers its dims and entries. The
@@ -173,9 +162,7 @@ impl Header {
         if let Checked::Refused(number, place) = writing::ready(self, ai, av, oi.len(), ov.len()) {
             return Written::Refused(number, place);
         }
-        let start = self.start;
-        let end = start + self.len;
-        regions::copy(&ai[start..end], &av[start..end], oi, ov);
+        regions::copy(ai, av, self.start, self.len, oi, ov, 0);
         Written::Done(self.dims, self.len)
     }
 

@@ -2,23 +2,25 @@
 
 use super::Header;
 use refusal::Checked;
+ghost use mathlib.Core.Path.{_≡_};
+ghost use lib.ListN.{length as length′};
 ghost use Rattle.refusal.specs.Answers.{Checks};
-ghost use Rattle.regions.specs.Regions.{pair};
+ghost use Rattle.regions.specs.Regions.{Pair, pair};
 ghost use Rattle.aggregate_svecf32.specs.Calls.{moveOf};
 
-// What a state that is to be moved to a region of other lists, with room for `more` entries more,
-// refuses with.
+// What a state that is to be moved to a region of other lists, of so many indexes and values, with room
+// for `more` entries more refuses with.
 pub fn ready(
     h: Header,
     ai: &[u32],
     av: &[f32],
     more: usize,
-    ci: &[u32],
-    cv: &[f32],
+    indexes: usize,
+    values: usize,
     start: usize,
     length: usize,
 ) -> Checked
-    ensures { λ r. ⌜ Checks (moveOf h (pair (now (ai .entry)) (now (av .entry))) more (pair (now (ci .entry)) (now (cv .entry))) start length) r ⌝ }
+    ensures { λ r. ⌜ ((q : Pair) → length′ (q .indexes) ≡ indexes → length′ (q .values) ≡ values → Checks (moveOf h (pair (now (ai .entry)) (now (av .entry))) more q start length) r) ⌝ }
 {
     if let Checked::Refused(number, place) = h.check(ai, av) {
         return Checked::Refused(number, place);
@@ -32,7 +34,7 @@ pub fn ready(
     if headers::has_room(h.dims, h.len, h.capacity, more) {
         return Checked::Refused(refusal::NOT_NEEDED, 0);
     }
-    if !regions::lies_inside(start, length, ci.len(), cv.len()) {
+    if !regions::lies_inside(start, length, indexes, values) {
         return Checked::Refused(refusal::ROOM, length);
     }
     let capacity = regions::capacity(h.dims, h.len + more);

@@ -1,31 +1,36 @@
 // What a header says of its region, and whether it is consistent with what stands there.
 
 use super::Header;
+use super::Told;
 ghost use mathlib.Core.Bool.{true};
 ghost use mathlib.Core.Path.{_≡_};
 ghost use Rattle.regions.specs.Regions.{pair, inside};
 ghost use Rattle.aggregate_svecf32.specs.States.{header, consistent};
 
-// A state that has begun.
-pub fn begun(
+// What a call answers where all is done: a state that has begun, and the turns.
+pub fn done(
     start: usize,
     length: usize,
     dims: u32,
     len: usize,
     capacity: usize,
     count: u32,
-) -> Header
-    ensures { λ r. ⌜ r ≡ header start length true dims len capacity count ⌝ }
+    turns: usize,
+) -> Told
+    ensures { λ r. ⌜ r ≡ Told.Done (header start length true dims len capacity count) turns ⌝ }
 {
-    Header {
-        start: start,
-        length: length,
-        begun: true,
-        dims: dims,
-        len: len,
-        capacity: capacity,
-        count: count,
-    }
+    Told::Done(
+        Header {
+            start: start,
+            length: length,
+            begun: true,
+            dims: dims,
+            len: len,
+            capacity: capacity,
+            count: count,
+        },
+        turns,
+    )
 }
 
 // Whether a header is consistent with the entries of its region, which lies inside the lists.

@@ -28,13 +28,8 @@ fn begin(
     if h.length < capacity {
         return Told::Refused(h, refusal::ROOM, capacity);
     }
-    let start = h.start;
-    let end = start + h.length;
-    regions::copy(bi, bv, &mut ai[start..end], &mut av[start..end]);
-    Told::Done(
-        states::begun(h.start, h.length, dims, bi.len(), capacity, count),
-        bi.len(),
-    )
+    regions::copy(bi, bv, 0, bi.len(), ai, av, h.start);
+    states::done(h.start, h.length, dims, bi.len(), capacity, count, bi.len())
 }
 
 // A state that has begun merges the entries, and its count rises by `more`.
@@ -73,8 +68,7 @@ fn merge(
         bi,
         bv,
     );
-    let new = states::begun(h.start, h.length, dims, m.len, h.capacity, count);
-    Told::Done(new, m.turns)
+    states::done(h.start, h.length, dims, m.len, h.capacity, count, m.turns)
 }
 
 // The state takes the entries in, and its count rises by `more`.

@@ -35,8 +35,8 @@ pub data Holding (p : Pair) (h : Header) : List Vector → Type 0 where
   full : {o : List Vector} → h .begun ≡ true → stateOf h p ≡ Valid → h .count ≡ length o → SumOf (held h p) o → Holding p h o
 
 -- a region is not empty once its state has begun
-region-some : {h : Header} {p : Pair} → Fair h p → 1 ≤ h .length
-region-some {h} f =
+region-some : (h : Header) (p : Pair) → Fair h p → 1 ≤ h .length
+region-some h p f =
     let own = eqb-true (capacityFor (h .dims) (h .capacity)) (h .capacity) (f .capacity) in
     omega (arith, f .fits, cap-pos (h .dims) (h .capacity) (f .sound .low))
 
@@ -55,8 +55,8 @@ module _ (p q : Pair) (h : Header) where
       let f = y .fair in
       let e = held-kept same (omega (arith, f .room, f .fits)) in
       let i : Inside h q = record {
-        indexes = part-inside (h .start) (h .length) (p .indexes) (q .indexes) (region-some f) (same .0) (y .inside .indexes);
-        values = part-inside (h .start) (h .length) (p .values) (q .values) (region-some f) (same .1) (y .inside .values);
+        indexes = part-inside (h .start) (h .length) (p .indexes) (q .indexes) (region-some h p f) (same .0) (y .inside .indexes);
+        values = part-inside (h .start) (h .length) (p .values) (q .values) (region-some h p f) (same .1) (y .inside .values);
       } in
       let g : Fair h q = record {
         capacity = f .capacity;

@@ -52,10 +52,6 @@ module _ {ℓ} {A : Type ℓ} where
     after = rw zero-add (past-front xs old n room count fits);
   })
 
-  -- a copy to the front
-  pub stands-copied : {xs old new : List A} → new ≡ xs ++ drop (length xs) old → length xs ≤ length old → Stands 0 (length xs) xs old new
-  stands-copied {xs} {old} {new} e h = stands-front xs old new (length xs) (length xs) e refl (omega arith) h
-
   -- what stands at the front of a part that was lent stands in the whole list
   pub stands-lent : {start k room : ℕ} {xs l ys : List A} → start + k ≤ length l → room ≤ k → length xs ≤ room
       → Stands 0 room xs (part start k l) ys → Stands start room xs l (lent start k l ys)
@@ -75,6 +71,20 @@ module _ {ℓ} {A : Type ℓ} where
             ∙ sym (drop-append-le room (part start k l) rest (omega (arith, part-length start k l fits)))
             ∙ ap (drop room) (take-append-drop k (drop start l)) ∙ drop-drop room start l;
       }
+
+  -- n entries that are copied to n places that were lent stand in the whole list
+  pub copied-lent : (from n start k j : ℕ) (xs l : List A) {ys : List A} → from + n ≤ length xs → start + n ≤ length l → k ≡ n → j ≡ n
+      → ys ≡ part from k xs ++ drop (length (part from k xs)) (part start j l) → Stands start n (part from n xs) l (lent start j l ys)
+  copied-lent from n start k j xs l {ys} there fits e f c =
+      let m : length (part from n xs) ≡ n = part-length from n xs there in
+      let d : ys ≡ part from n xs ++ drop n (part start n l) = rw (e, f, m) at c in
+      let h : n ≤ length (part start n l) = omega (arith, part-length start n l fits) in
+      rw f (stands-lent fits (omega arith) (omega (arith, m)) (stands-front (part from n xs) (part start n l) ys n n d m (omega arith) h))
+
+  -- what stands in front of a list, and fills its room, is followed by what is left of it
+  pub front-stands : {n : ℕ} {xs old new : List A} → length xs ≡ n → Stands 0 n xs old new → new ≡ xs ++ drop n old
+  front-stands {n} {xs} {old} {new} e s =
+      sym (take-append-drop n new) ∙ ap₂ _++_ (rw e at (s .here)) (rw zero-add at (s .after))
 
   -- two lists left by one call agree, but in the room after xs
   pub stands-one : {start room : ℕ} {xs old a b : List A} → Stands start room xs old a → Stands start room xs old b

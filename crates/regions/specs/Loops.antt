@@ -1,17 +1,16 @@
--- What a loop that copies a vector is handed, and what it promises to the calls above it. A user's promises do not cite these.
-use Prim.Native.Nat.{ℕ, _≤_}
-use mathlib.Core.List.{List, _++_}
-use mathlib.Core.Path.{_≡_}
-use lib.ListN.{length, drop}
-use lib.Ieee.{Float}
+-- What a copy is handed, and what it promises to the calls above it. A user's promises do not cite these.
+use Prim.Native.Nat.{ℕ, _+_, _≤_}
+use lib.ListN.{length}
+use Rattle.regions.specs.Regions.{Pair, part, Stands}
 
--- as many indexes as values, and room for them
-pub record Fitting (is : List ℕ) (vs : List Float) (oi : List ℕ) (ov : List Float) : Type 0 where
-  pub even : length is ≡ length vs
-  pub room : length is ≤ length oi
-  pub room′ : length is ≤ length ov
+-- n entries from `from` on are there, and n places from `to` on
+pub record Fitting (from n : ℕ) (p : Pair) (to : ℕ) (q : Pair) : Type 0 where
+  pub indexes : from + n ≤ length (p .indexes)
+  pub values : from + n ≤ length (p .values)
+  pub room : to + n ≤ length (q .indexes)
+  pub room′ : to + n ≤ length (q .values)
 
--- they stand in front of what is left of the lists
-pub record Copied (is : List ℕ) (vs : List Float) (oi : List ℕ) (ov : List Float) (oi′ : List ℕ) (ov′ : List Float) : Type 0 where
-  pub indexes : oi′ ≡ is ++ drop (length is) oi
-  pub values : ov′ ≡ vs ++ drop (length vs) ov
+-- the entries stand at those places, and nothing else has changed
+pub record Copied (from n : ℕ) (p : Pair) (to : ℕ) (q q′ : Pair) : Type 0 where
+  pub indexes : Stands to n (part from n (p .indexes)) (q .indexes) (q′ .indexes)
+  pub values : Stands to n (part from n (p .values)) (q .values) (q′ .values)

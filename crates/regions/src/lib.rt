@@ -1,5 +1,5 @@
 // Regions of a lent pair of lists, in which the states of an aggregate live: how large one has to be,
-// whether it lies inside its lists, and how a vector is copied to its front.
+// whether it lies inside its lists, and how entries are copied from one to another.
 
 ghost use mathlib.Core.Path.{_≡_};
 ghost use mathlib.Core.List.{_++_};
@@ -7,7 +7,7 @@ ghost use Prim.Native.Nat.{_+_, _≤_};
 ghost use lib.Dec.{leb};
 ghost use lib.ListN.{length, drop};
 ghost use Rattle.regions.specs.Capacity.{capacityFor};
-ghost use Rattle.regions.specs.Regions.{within};
+ghost use Rattle.regions.specs.Regions.{pair, within};
 ghost use Rattle.regions.specs.Loops.{Fitting, Copied};
 
 // The capacity for n entries in a vector of `dims` places: the leading zeros of n - 1 give the power of
@@ -68,11 +68,22 @@ fn copy_values(from: &[f32], to: &mut [f32])
     }
 }
 
-// Copies the entries of a vector to the front of two lists. For the crates above, not for users.
-pub fn copy(indexes: &[u32], values: &[f32], oi: &mut [u32], ov: &mut [f32])
-    requires { ⌜ Fitting (now indexes) (now values) (now oi) (now ov) ⌝ }
-    ensures { λ r. ⌜ Copied (now (indexes .entry)) (now (values .entry)) (now (oi .entry)) (now (ov .entry)) (now (oi .exit)) (now (ov .exit)) ⌝ }
+// Copies the n entries from `from` on of a pair of lists to the places from `to` on of another. For the
+// crates above, not for users.
+pub fn copy(
+    ai: &[u32],
+    av: &[f32],
+    from: usize,
+    n: usize,
+    ci: &mut [u32],
+    cv: &mut [f32],
+    to: usize,
+)
+    requires { ⌜ Fitting from n (pair (now ai) (now av)) to (pair (now ci) (now cv)) ⌝ }
+    ensures { λ r. ⌜ Copied from n (pair (now (ai .entry)) (now (av .entry))) to (pair (now (ci .entry)) (now (cv .entry))) (pair (now (ci .exit)) (now (cv .exit))) ⌝ }
 {
-    copy_indexes(indexes, oi);
-    copy_values(values, ov);
+    let end = from + n;
+    let new_end = to + n;
+    copy_indexes(&ai[from..end], &mut ci[to..new_end]);
+    copy_values(&av[from..end], &mut cv[to..new_end]);
 }

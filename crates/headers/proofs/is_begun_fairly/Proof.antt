@@ -1,7 +1,7 @@
 -- `headers::is_begun_fairly` meets its contract: each test that fails is one that fair numbers pass. Assumes nothing.
 use Prim.Native.Nat.{_+_, _≤_}
 use native.Mathlib.Omega.{arith}
-use mathlib.Core.Bool.{true, false}
+use mathlib.Core.Bool.{false}
 use mathlib.Core.Path.{_≡_, sym, ap, _∙_}
 use lib.ListN.{length}
 use borrow.Author.Needs.{needs}
@@ -10,7 +10,6 @@ use Rattle.refusal.proofs.Chains.{refused-valid}
 use Rattle.sparse.specs.Calls.{checkedOf}
 use Rattle.sparse.specs.Vectors.{Vector, vector}
 use Rattle.sparse.proofs.Checks.{sound, valid}
-use Rattle.regions.specs.Capacity.{isCapacity}
 use Rattle.regions.specs.Regions.{Pair, pair, part}
 use Rattle.regions.proofs.Stands.{inside-both}
 use Rattle.headers.specs.Headers.{fair}

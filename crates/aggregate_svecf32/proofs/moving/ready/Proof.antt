@@ -6,7 +6,7 @@ use borrow.Author.Needs.{needs}
 use borrow.Author.Tests.{lt-ltb, le-ltb, not-false, not-true}
 use Rattle.refusal.specs.declared.Checked.the-variants.{Valid, Refused}
 use Rattle.refusal.proofs.Told.{checked-answer}
-use Rattle.regions.specs.Regions.{Pair, pair, inside}
+use Rattle.regions.specs.Regions.{Pair, pair, within}
 use Rattle.aggregate_svecf32.specs.States.{stateOf}
 use Rattle.aggregate_svecf32.specs.Calls.{spare, moveOf}
 use Rattle.aggregate_svecf32.proofs.Consistent.{Sure, state-sure}
@@ -16,7 +16,7 @@ use Rattle.aggregate_svecf32.proofs.moving.ready.Tie as tie
 
 -- where the function begins, seen from each test
 abbrev start : tie.After-enum-told → tie.Start
-start c = c .before .before .before .before .before .before .before
+start c = c .before .before .before .before .before
 
 abbrev start-2 : tie.Else1 → tie.Start
 start-2 c = start (c .before .before)
@@ -47,7 +47,7 @@ within-dims c = let a = start-3 c .args in le-ltb (a .h .dims) (a .more) (c .if2
 needed : (c : tie.Else3) → let a = start-4 c .args in spare (a .h) (a .more) ≡ false
 needed c = sym (c .before .has-room .ensures) ∙ c .if3 .left
 
-inner : (c : tie.Else4) → let a = start-5 c .args in inside (a .start) (a .length) (pair (a .ci .now) (a .cv .now)) ≡ true
+inner : (c : tie.Else4) → let a = start-5 c .args in within (a .start) (a .length) (a .indexes) (a .values) ≡ true
 inner c = sym (c .before .lies-inside .ensures) ∙ not-false _ (c .if4 .left)
 
 sure : (c : tie.Else1) → Sure (start-2 c .args .h) (lists (start-2 c))
@@ -63,14 +63,14 @@ enum-known-number c = search needs
 
 returns : tie.Need-returns
 unfolding moveOf
-returns c = checked-answer (rw (sym (c .before .before .before .check .ensures .answer) ∙ c .before .number .given .1))
+returns c q e f = checked-answer (rw (sym (c .before .before .before .check .ensures .answer) ∙ c .before .number .given .1))
 
 enum-told : tie.Need-enum-told
 enum-told c = search needs
 
 returns-2 : tie.Need-returns-2
 unfolding moveOf
-returns-2 c =
+returns-2 c q e f =
     let t = c .before .before in
     checked-answer (rw (passed t, not-true (start t .args .h .begun) (c .if1 .taken)))
 
@@ -79,7 +79,7 @@ cast-if2 c = search needs
 
 returns-3 : tie.Need-returns-3
 unfolding moveOf
-returns-3 c =
+returns-3 c q e f =
     let b = c .before .before in
     let a = start-2 b .args in
     checked-answer (rw (passed (b .before .before), begun b, lt-ltb (a .h .dims) (a .more) (c .if2 .taken)))
@@ -89,7 +89,7 @@ has-room-requires c κs = sure (c .before .before) .fair .room
 
 returns-4 : tie.Need-returns-4
 unfolding moveOf
-returns-4 c =
+returns-4 c q e f =
     let d = c .before .before in
     let b = d .before .before in
     checked-answer (rw (passed (b .before .before), begun b, within-dims d, sym (c .before .has-room .ensures) ∙ c .if3 .taken))
@@ -99,12 +99,14 @@ lies-inside-requires c κs = search needs
 
 returns-5 : tie.Need-returns-5
 unfolding moveOf
-returns-5 c =
+returns-5 c q e f =
     let n = c .before .before in
     let d = n .before .before in
     let b = d .before .before in
     checked-answer
     (rw (
+      e,
+      f,
       passed (b .before .before),
       begun b,
       within-dims d,
@@ -123,24 +125,24 @@ capacity-requires c κs = search needs
 
 returns-6 : tie.Need-returns-6
 unfolding moveOf
-returns-6 c =
+returns-6 c q e f =
     let i = c .before .before .before in
     let n = i .before .before in
     let d = n .before .before in
     let b = d .before .before in
-    let e = c .before .capacity .ensures in
+    let g = c .before .capacity .ensures in
     checked-answer
-    (rw (passed (b .before .before), begun b, within-dims d, needed n, inner i, lt-ltb _ _ (rw e at (c .if5 .taken))) (ap (Refused 9) e))
+    (rw (e, f, passed (b .before .before), begun b, within-dims d, needed n, inner i, lt-ltb _ _ (rw g at (c .if5 .taken))) (ap (Refused 9) g))
 
 returns-7 : tie.Need-returns-7
 unfolding moveOf
-returns-7 c =
+returns-7 c q e f =
     let i = c .before .before .before in
     let n = i .before .before in
     let d = n .before .before in
     let b = d .before .before in
-    let e = c .before .capacity .ensures in
-    checked-answer (rw (passed (b .before .before), begun b, within-dims d, needed n, inner i, le-ltb _ _ (rw e at (c .if5 .left))))
+    let g = c .before .capacity .ensures in
+    checked-answer (rw (e, f, passed (b .before .before), begun b, within-dims d, needed n, inner i, le-ltb _ _ (rw g at (c .if5 .left))))
 
 pub ready-spec : {M : Type 1} → statement M
 ready-spec =

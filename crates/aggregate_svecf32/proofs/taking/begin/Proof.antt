@@ -4,7 +4,6 @@ use borrow.Author.Needs.{needs}
 use Rattle.sparse.specs.Vectors.{Vector, vector, size}
 use Rattle.regions.specs.Capacity.{capacityFor}
 use Rattle.regions.specs.Regions.{Pair, pair}
-use Rattle.aggregate_svecf32.proofs.Consistent.{Inside, state-inside}
 use Rattle.aggregate_svecf32.proofs.Acting.{acts-refused}
 use Rattle.aggregate_svecf32.proofs.Begun.{begin-short, begin-fits, begin-done}
 use Rattle.aggregate_svecf32.proofs.taking.begin.Statement.{statement}
@@ -19,11 +18,7 @@ lists s = pair (s .args .ai .now) (s .args .av .now)
 abbrev row : tie.Start → Vector
 row s = vector (s .args .dims) (s .args .bi .now) (s .args .bv .now)
 
--- the region lies inside both lists
-inner : (s : tie.Start) → Inside (s .args .h) (lists s)
-inner s = state-inside (s .args .h) (lists s) (s .pre .state)
-
--- and has the capacity
+-- the region has the capacity
 roomy : (c : tie.Else1) → let s = start (c .before .before) in capacityFor (row s .dims) (size (row s)) ≤ s .args .h .length
 roomy c = rw (c .before .before .capacity .ensures) at (c .if1 .left)
 
@@ -37,41 +32,14 @@ returns c =
     let e = k .capacity .ensures in
     rw e (acts-refused _ (begin-short (s .args .h) (row s) (rw e at (c .if1 .taken))))
 
-add-end : tie.Need-add-end
-add-end c = let i = inner (start (c .before .before .before)) in search needs
-
-mul-copy : tie.Need-mul-copy
-mul-copy c = let i = inner (start (c .before .before .before)) in search needs
-
-sub-copy : tie.Need-sub-copy
-sub-copy c = search needs
-
-part-copy-start : tie.Need-part-copy-start
-part-copy-start c = search needs
-
-part-copy-end : tie.Need-part-copy-end
-part-copy-end c = let i = inner (start (c .before .before .before)) in search needs
-
-mul-copy-2 : tie.Need-mul-copy-2
-mul-copy-2 c = let i = inner (start (c .before .before .before .before)) in search needs
-
-sub-copy-2 : tie.Need-sub-copy-2
-sub-copy-2 c = search needs
-
-part-copy-start-2 : tie.Need-part-copy-start-2
-part-copy-start-2 c = search needs
-
-part-copy-end-2 : tie.Need-part-copy-end-2
-part-copy-end-2 c = let i = inner (start (c .before .before .before .before)) in search needs
-
 copy-requires : tie.Need-copy-requires
 copy-requires c κs =
-    let l = c .before .before .before in
+    let l = c .before .before in
     let s = start (l .before .before) in
     begin-fits (s .args .h) (lists s) (row s) (s .args .count) (s .pre) (roomy l)
 
-begun-requires : tie.Need-begun-requires
-begun-requires c κs = search needs
+done-requires : tie.Need-done-requires
+done-requires c κs = search needs
 
 same-length : tie.Need-same-length
 same-length c = search needs
@@ -82,10 +50,10 @@ same-length-2 c = search needs
 returns-2 : tie.Need-returns-2
 returns-2 c =
     let f = c .before .before .before .before .before in
-    let l = f .before .before .before .before in
+    let l = f .before .before .before in
     let k = l .before .before in
     let s = start k in
-    rw (c .begun .ensures, k .capacity .ensures)
+    rw (c .done .ensures, k .capacity .ensures)
     (begin-done (s .args .h) (lists s) (row s) (s .args .count) (s .pre) (roomy l) (f .copy .ensures))
 
 pub begin-spec : {M : Type 1} → statement M
@@ -94,17 +62,8 @@ begin-spec =
     (tie.spec
     capacity-requires
     returns
-    add-end
-    mul-copy
-    sub-copy
-    part-copy-start
-    part-copy-end
-    mul-copy-2
-    sub-copy-2
-    part-copy-start-2
-    part-copy-end-2
     copy-requires
-    begun-requires
+    done-requires
     same-length
     same-length-2
     returns-2)

@@ -117,8 +117,8 @@ merge-in-place-requires c κs =
     let same = alike (counted e) .if1 .left in
     (sure s .fair .room, merge-roomy (s .args .h) (lists s) (row s) (s .args .more) (s .pre .0) (s .pre .1) same (spares e))
 
-begun-requires : tie.Need-begun-requires
-begun-requires c κs = search needs
+done-requires : tie.Need-done-requires
+done-requires c κs = search needs
 
 same-length : tie.Need-same-length
 same-length c = search needs
@@ -132,7 +132,7 @@ returns-4 c =
     let e = m .before .before .before .before in
     let few = counted e in
     let s = begin e in
-    rw (c .begun .ensures)
+    rw (c .done .ensures)
     (merge-done (s .args .h) (lists s) (row s) (s .args .more) (s .pre .0) (s .pre .1) (alike few .if1 .left) (few .if2 .left) (spares e)
     (m .merge-in-place .ensures))
 
@@ -157,7 +157,7 @@ merge-spec =
     part-merge-in-place-start-2
     part-merge-in-place-end-2
     merge-in-place-requires
-    begun-requires
+    done-requires
     same-length
     same-length-2
     returns-4)
