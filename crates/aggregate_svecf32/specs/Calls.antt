@@ -19,7 +19,7 @@ use Rattle.regions.specs.Capacity.{capacityFor}
 use Rattle.regions.specs.Regions.{Pair, inside, Stands}
 use Rattle.in_place.specs.Turns.{rowTurns}
 use Rattle.averages.specs.Averages.{shared}
-use Rattle.headers.specs.Headers.{roomFor}
+use Rattle.headers.specs.Headers.{hasRoom}
 use Rattle.aggregate_svecf32.specs.States.{header, numbersOf, held, stateOf}
 use Rattle.aggregate_svecf32.specs.declared.Header.{Header}
 use Rattle.aggregate_svecf32.specs.declared.Told.{Told}
@@ -120,7 +120,7 @@ Combines h p g q = Acts h (combineOf h p g q) (combined h p g q) p
 
 -- "a move for n where capacity is dims, or capacity - len is at least n"
 abbrev pub spare : Header → ℕ → Bool
-spare h n = roomFor (h .dims) (h .len) (h .capacity) n
+spare h n = hasRoom (h .dims) (h .len) (h .capacity) n
 
 -- "STATE, NOT_BEGUN, 1, .. NEED or NOT_NEEDED, then ROOM for a region or output too short. A move's new region is tested here: first inside
 -- its lists, then long enough."

@@ -29,5 +29,5 @@ abbrev pub zeros : ℕ → ℕ → ℕ → ℕ → Bool
 zeros d len capacity count = eqb d 0 && eqb len 0 && eqb capacity 0 && eqb count 0
 
 -- "a move for n where capacity is dims, or capacity - len is at least n"
-abbrev pub roomFor : ℕ → ℕ → ℕ → ℕ → Bool
-roomFor d len capacity n = eqb capacity d || leb n (capacity - len)
+abbrev pub hasRoom : ℕ → ℕ → ℕ → ℕ → Bool
+hasRoom d len capacity n = eqb capacity d || leb n (capacity - len)

@@ -6,7 +6,7 @@ ghost use mathlib.Core.Path.{_≡_};
 ghost use Prim.Native.Nat.{_≤_};
 ghost use Rattle.sparse.specs.Vectors.{vector};
 ghost use Rattle.regions.specs.Regions.{pair, part, inside};
-ghost use Rattle.headers.specs.Headers.{fair, zeros, roomFor};
+ghost use Rattle.headers.specs.Headers.{fair, zeros, hasRoom};
 
 // Whether the numbers of a header without rows are consistent.
 pub fn is_all_zero(dims: u32, len: usize, capacity: usize, count: u32) -> bool
@@ -65,7 +65,7 @@ pub fn is_begun_fairly(
 // for all n.
 pub fn has_room(dims: u32, len: usize, capacity: usize, n: usize) -> bool
     requires { ⌜ len ≤ capacity ⌝ }
-    ensures { λ r. ⌜ r ≡ roomFor dims len capacity n ⌝ }
+    ensures { λ r. ⌜ r ≡ hasRoom dims len capacity n ⌝ }
 {
     if capacity == dims as usize {
         return true;
