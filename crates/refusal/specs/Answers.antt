@@ -1,5 +1,5 @@
--- What a call answers. The tests of a call stand in one chain, and the first that holds is the refusal. Each kind of answer says which
--- number and place of document 01 its cases stand for, and what it is where nothing is refused.
+-- What a call answers. The tests of a call stand in one chain, and the first that holds is the refusal. For each kind of answer: what its cases
+-- say, in document 01's numbers and values, and which answer it is where the tests found something or nothing.
 use Prim.Native.Nat.{ℕ}
 use mathlib.Core.Bool.{Bool, cond}
 use mathlib.Core.List.{List, [], _∷_, _++_, map}
@@ -89,10 +89,10 @@ orderNumber Unordered = 4
 orderNumber (NoOrder n p) = 0
 
 abbrev pub orderSays : Ordering → Says
-orderSays Less = says 0 0 (1 ∷ [])
-orderSays Equal = says 0 0 (2 ∷ [])
-orderSays Greater = says 0 0 (3 ∷ [])
-orderSays Unordered = says 0 0 (4 ∷ [])
+orderSays Less = says 0 0 (orderNumber Less ∷ [])
+orderSays Equal = says 0 0 (orderNumber Equal ∷ [])
+orderSays Greater = says 0 0 (orderNumber Greater ∷ [])
+orderSays Unordered = says 0 0 (orderNumber Unordered ∷ [])
 orderSays (NoOrder n p) = says n p (0 ∷ [])
 
 -- ---- the answer of a call, where its tests find `due`
