@@ -4,7 +4,7 @@ use Prim.Native.Nat.{ℕ}
 use mathlib.Core.Bool.{Bool, cond}
 use mathlib.Core.List.{List, [], _∷_, _++_, map}
 use mathlib.Core.Path.{_≡_}
-use lib.ListN.{length, drop}
+use lib.ListN.{length, drop, getD}
 use lib.Ieee.{Float}
 use Rattle.refusal.specs.declared.Checked.{Checked}
 use Rattle.refusal.specs.declared.Checked.the-variants.{Valid, Refused}
@@ -81,18 +81,11 @@ askedSays No = says 0 0 (0 ∷ [])
 askedSays (NotAsked n p) = says n p (0 ∷ [])
 
 -- 1 for less, 2 for equal, 3 for greater, 4 for no order
-abbrev pub orderNumber : Ordering → ℕ
-orderNumber Less = 1
-orderNumber Equal = 2
-orderNumber Greater = 3
-orderNumber Unordered = 4
-orderNumber (NoOrder n p) = 0
-
 abbrev pub orderSays : Ordering → Says
-orderSays Less = says 0 0 (orderNumber Less ∷ [])
-orderSays Equal = says 0 0 (orderNumber Equal ∷ [])
-orderSays Greater = says 0 0 (orderNumber Greater ∷ [])
-orderSays Unordered = says 0 0 (orderNumber Unordered ∷ [])
+orderSays Less = says 0 0 (1 ∷ [])
+orderSays Equal = says 0 0 (2 ∷ [])
+orderSays Greater = says 0 0 (3 ∷ [])
+orderSays Unordered = says 0 0 (4 ∷ [])
 orderSays (NoOrder n p) = says n p (0 ∷ [])
 
 -- ---- the answer of a call, where its tests find `due`
@@ -136,6 +129,10 @@ Measures x = Answers distanceSays (tells [] (x ∷ [])) (distanceOf x)
 -- yes where b holds
 abbrev pub Asks : Bool → Checked → Asked → Type 0
 Asks b = Answers askedSays (tells (cond b 1 0 ∷ []) []) (askedOf b)
+
+-- the number of an order that is no refusal
+abbrev pub orderNumber : Ordering → ℕ
+orderNumber o = getD (orderSays o .values) 0 0
 
 -- an order
 abbrev pub Orders : Ordering → Checked → Ordering → Type 0
