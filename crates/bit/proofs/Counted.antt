@@ -1,12 +1,15 @@
--- A count that is the due one says the number and place of what the tests found. Assumes nothing.
+-- A count that is the due one says the number and place of what the tests found, and what a count says decides it. Assumes nothing.
 use Prim.Native.Nat.{ℕ}
 use native.Mathlib.Omega.{arith}
 use mathlib.Core.List.{[], _∷_}
 use mathlib.Core.Path.{_≡_, refl, sym, ap₂}
-use Rattle.refusal.specs.Answers.{tells}
+use lib.ListN.{getD}
+use borrow.Author.Tests.{ne-eqb}
+use Rattle.refusal.specs.Answers.{Says, tells}
 use Rattle.refusal.specs.declared.Checked.{Checked}
 use Rattle.refusal.specs.declared.Checked.the-variants.{Valid, Refused}
 use Rattle.refusal.proofs.Told.{answered}
+use Rattle.refusal.proofs.Decides.{decided, Numbered, doneOr}
 use Rattle.bit.specs.Calls.{countSays, countOf, countsSays, countsOf, Tallies, TalliesBoth}
 use Rattle.bit.specs.declared.Count.{Count}
 use Rattle.bit.specs.declared.Count.the-variants.{Ones, Refused as NoCount}
@@ -26,6 +29,28 @@ counts-fair m n (Refused k p) = refl
 
 pub counts-answer : (m n : ℕ) {due : Checked} {r : Counts} → r ≡ countsOf m n due → TalliesBoth m n due r
 counts-answer m n e = answered countsSays (tells (m ∷ n ∷ []) []) (countsOf m n) (counts-fair m n) e
+
+-- ---- what a count says decides it, where no refusal has the number 0, which is done
+
+pub count-decided : (r s : Count) → Numbered NoCount r → Numbered NoCount s → countSays r ≡ countSays s → r ≡ s
+count-decided r s k l = decided countSays back (fair r k) (fair s l)
+  where
+    back : Says → Count
+    back = doneOr NoCount (λ vs. Ones (getD vs 0 0))
+
+    fair : (r : Count) → Numbered NoCount r → back (countSays r) ≡ r
+    fair (Ones n) k = refl
+    fair (NoCount n p) k = rw (ne-eqb n 0 (k n p refl))
+
+pub counts-decided : (r s : Counts) → Numbered NoCounts r → Numbered NoCounts s → countsSays r ≡ countsSays s → r ≡ s
+counts-decided r s k l = decided countsSays back (fair r k) (fair s l)
+  where
+    back : Says → Counts
+    back = doneOr NoCounts (λ vs. Both (getD vs 0 0) (getD vs 1 0))
+
+    fair : (r : Counts) → Numbered NoCounts r → back (countsSays r) ≡ r
+    fair (Both m n) k = refl
+    fair (NoCounts n p) k = rw (ne-eqb n 0 (k n p refl))
 
 -- ---- and back: what an answer tells of the tests
 
