@@ -42,10 +42,14 @@ size_t peer_eigen_answer(int which, const void *a, const void *b, uint32_t *inde
     return n;
 }
 
-// The sum of products, or of squared differences.
-float peer_eigen_fold(int which, const void *a, const void *b) {
+// The sum of products, that of squared differences, or the three sums: of products and of each side's squares.
+void peer_eigen_fold(int which, const void *a, const void *b, float *sums) {
     const Vector &x = *static_cast<const Vector *>(a), &y = *static_cast<const Vector *>(b);
-    return which == 3 ? x.dot(y) : (x - y).squaredNorm();
+    switch (which) {
+    case 3: sums[0] = x.dot(y); break;
+    case 4: sums[0] = (x - y).squaredNorm(); break;
+    default: sums[0] = x.dot(y), sums[1] = x.squaredNorm(), sums[2] = y.squaredNorm();
+    }
 }
 }
 #endif

@@ -1,15 +1,17 @@
-//! The chart: a bar for each case and build, ours by the Rust. Light and dark are chosen by whoever shows it.
-use crate::results::{Measured, Results};
-use crate::table::{is_met, of};
-use crate::timing::{OURS, RUST};
+//! The chart: a bar for each case and build, ours by the Rust. A thin line goes on to ours by the better, where the
+//! target is of that. Light and dark are chosen by whoever shows it.
+use crate::results::Results;
+use crate::targets::{judged, Judged};
 use std::fmt::Write;
 
 const WIDTH: f64 = 980.0;
-const LEFT: f64 = 290.0;
+const MARGIN: f64 = 24.0;
+const LEFT: f64 = 310.0;
 const RIGHT: f64 = 60.0;
 const TOP: f64 = 112.0;
 const ROW: f64 = 25.0;
 const BAR: f64 = 8.0;
+const THIN: f64 = 2.0;
 const HEADING: f64 = 30.0;
 
 /// Ratios above this are cut.
@@ -56,38 +58,42 @@ fn group(case: &str) -> &'static str {
     }
 }
 
-/// A bar, and its number behind it.
-fn bar(svg: &mut String, kind: &str, m: &Measured, y: f64) {
-    let over = if is_met(m) == Some(false) { " over" } else { "" };
-    let ratio = m.ratio.median;
-    rect(svg, &format!("{kind}{over}"), (LEFT, y), x(ratio) - LEFT, BAR);
+/// A bar with the mark of what is to be reached, and behind it the number that decides.
+fn bar(svg: &mut String, kind: &str, case: &Judged, y: f64) {
+    let class = format!("{kind}{}", if case.is_met() == Some(false) { " over" } else { "" });
+    let (by_rust, ratio) = (x(case.by_rust.ratio.median), case.ratio());
+    rect(svg, &class, (LEFT, y), by_rust - LEFT, BAR);
+    if x(ratio) > by_rust {
+        rect(svg, &class, (by_rust, y + (BAR - THIN) / 2.0), x(ratio) - by_rust, THIN);
+    }
+    let target = case.by_rust.target.map(|target| target.at_most);
+    if let Some(target) = target {
+        line(svg, "mark", x(target), y - 2.0, y + BAR + 2.0);
+    }
     let cut = if ratio > MOST { "→ " } else { "" };
-    let place = x(ratio).max(m.target.map_or(0.0, |t| if ratio < t && t < ratio + 0.09 { x(t) } else { 0.0 }));
+    let end = target.filter(|&target| ratio < target && target < ratio + 0.09).unwrap_or(ratio);
     writeln!(
         svg,
         r#"<text class="soft" font-size="9.5" x="{:.1}" y="{:.1}">{cut}{ratio:.2}</text>"#,
-        place + 5.0,
+        x(end) + 5.0,
         y + BAR - 0.5
     )
     .unwrap();
 }
 
-/// One case: its name, a bar for each build, and the mark of what is to be reached.
-fn row(svg: &mut String, plain: &Measured, native: Option<&Measured>, y: f64) {
-    text(svg, "text", "end", (LEFT - 10.0, y + 13.0), &plain.case);
+/// One case: its name, and a bar for each build.
+fn row(svg: &mut String, plain: &Judged, native: Option<&Judged>, y: f64) {
+    text(svg, "text", "end", (LEFT - 10.0, y + 13.0), &plain.by_rust.case);
     let first = if native.is_some() { y } else { y + BAR / 2.0 };
     bar(svg, "plain", plain, first);
     if let Some(native) = native {
         bar(svg, "host", native, y + BAR + 1.0);
     }
-    if let Some(target) = plain.target {
-        line(svg, "mark", x(target), y - 2.0, y + 2.0 * BAR + 3.0);
-    }
 }
 
 fn legend(svg: &mut String, has_native: bool) {
     let y = 72.0;
-    let mut at = LEFT;
+    let mut at = MARGIN;
     let mut key = |svg: &mut String, classes: &[&str], words: &str, width: f64| {
         for (k, class) in classes.iter().enumerate() {
             rect(svg, class, (at + 14.0 * k as f64, y), 11.0, BAR);
@@ -103,6 +109,7 @@ fn legend(svg: &mut String, has_native: bool) {
     let over: &[&str] = if has_native { &["plain over", "host over"] } else { &["plain over"] };
     key(svg, over, "above the target", 114.0);
     key(svg, &[], "┃ target", 60.0);
+    key(svg, &[], "━ by the better of the Rust and Eigen", 0.0);
 }
 
 fn axis(svg: &mut String, bottom: f64) {
@@ -116,17 +123,17 @@ fn axis(svg: &mut String, bottom: f64) {
 }
 
 pub fn chart(plain: &Results, native: Option<&Results>) -> String {
-    let cases: Vec<&Measured> = of(plain, OURS, RUST).collect();
     let mut bars = String::new();
     let (mut y, mut last) = (TOP, "");
-    for case in cases {
-        if group(&case.case) != last {
-            last = group(&case.case);
+    for case in judged(plain) {
+        let name = &case.by_rust.case;
+        if group(name) != last {
+            last = group(name);
             text(&mut bars, "text group", "end", (LEFT - 10.0, y + 16.0), last);
             y += HEADING;
         }
-        let same = native.and_then(|native| of(native, OURS, RUST).find(|m| m.case == case.case));
-        row(&mut bars, case, same, y);
+        let same = native.and_then(|native| judged(native).find(|other| other.by_rust.case == *name));
+        row(&mut bars, &case, same.as_ref(), y);
         y += ROW;
     }
     let height = y + 46.0;
@@ -135,10 +142,10 @@ pub fn chart(plain: &Results, native: Option<&Results>) -> String {
     let title = "Time of a call: ours by the Rust";
     writeln!(svg, "<title>{title}</title>\n<style>{STYLE}</style>").unwrap();
     writeln!(svg, r#"<rect class="page" width="{WIDTH}" height="{height}"/>"#).unwrap();
-    text(&mut svg, "text title", "start", (24.0, 30.0), title);
+    text(&mut svg, "text title", "start", (MARGIN, 30.0), title);
     let machine = plain.machine.first().map_or("", String::as_str);
     let under = format!("Shorter is faster. Our checks are in it. {machine}.");
-    text(&mut svg, "soft", "start", (24.0, 50.0), &under);
+    text(&mut svg, "soft", "start", (MARGIN, 50.0), &under);
     legend(&mut svg, native.is_some());
     axis(&mut svg, y);
     svg + &bars + "</svg>\n"

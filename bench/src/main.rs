@@ -1,8 +1,9 @@
 //! Times ours and the Rust side by side. `bench/run` starts it.
 //!
-//!     bench measure FILE [TEXT]     runs the cases with the text in their name, and writes what it finds to FILE
-//!     bench report FOLDER [DOCS]    prints the tables of FOLDER/plain.txt and FOLDER/native.txt; writes them and the
-//!                                   chart to FOLDER, and if DOCS is given to DOCS/SPEED.md and DOCS/speed.svg
+//!     bench measure FILE BUILD [TEXT]    runs the cases with the text in their name, and writes what it finds to FILE;
+//!                                        BUILD is plain or native, and decides which targets hold
+//!     bench report FOLDER [DOCS]         prints the tables of FOLDER/plain.txt and FOLDER/native.txt; writes them and
+//!                                        the chart to FOLDER, and if DOCS is given to DOCS/SPEED.md and DOCS/speed.svg
 mod allocations;
 mod cases;
 mod chart;
@@ -11,20 +12,23 @@ mod machine;
 mod peers;
 mod results;
 mod table;
+mod targets;
 mod timing;
 
 use results::Results;
 use std::fs;
 use std::process::ExitCode;
+use targets::Build;
 
 /// The tables stand in DOCS/SPEED.md between these lines.
 const FROM: &str = "<!-- the figures of a run: bench/run SOURCES --write -->\n";
 const TO: &str = "<!-- the end of the figures -->\n";
 
-fn measure(file: &str, only: &str) -> std::io::Result<()> {
+fn measure(file: &str, build: &str, only: &str) -> std::io::Result<()> {
+    let build = Build::named(build).ok_or_else(|| std::io::Error::other(format!("there is no build '{build}'")))?;
     let (machine, warnings) = (machine::facts(), machine::warnings());
     warnings.iter().for_each(|warning| eprintln!("warning: {warning}"));
-    let results = Results { machine, warnings, ..cases::run(only) };
+    let results = Results { machine, warnings, ..cases::run(build, only) };
     if results.measured.is_empty() && results.growth.is_empty() {
         return Err(std::io::Error::other(format!("no case has '{only}' in its name")));
     }
@@ -50,10 +54,10 @@ fn main() -> ExitCode {
     let words: Vec<String> = std::env::args().skip(1).collect();
     let names: Vec<&str> = words.iter().map(String::as_str).collect();
     let done = match names[..] {
-        ["measure", file] => measure(file, ""),
-        ["measure", file, only] => measure(file, only),
+        ["measure", file, build] => measure(file, build, ""),
+        ["measure", file, build, only] => measure(file, build, only),
         ["report", folder] | ["report", folder, _] => report(folder, words.get(2)),
-        _ => Err(std::io::Error::other("bench measure FILE [TEXT], or bench report FOLDER [DOCS]")),
+        _ => Err(std::io::Error::other("bench measure FILE BUILD [TEXT], or bench report FOLDER [DOCS]")),
     };
     if let Err(error) = done {
         eprintln!("bench: {error}");

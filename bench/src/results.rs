@@ -1,11 +1,11 @@
 //! What a run has found, and its text: a line for each finding, fields between tabs.
+use crate::targets::Target;
 use crate::timing::Spread;
 
 /// A case by two sides. The ratio is the first side's time by the other's.
 pub struct Measured {
     pub case: String,
-    /// The ratio that is to be reached.
-    pub target: Option<f64>,
+    pub target: Option<Target>,
     pub side: String,
     pub other: String,
     pub ns: f64,
@@ -36,6 +36,11 @@ pub struct Results {
 }
 
 impl Results {
+    /// The cases of one side against another.
+    pub fn of<'a>(&'a self, side: &'a str, other: &'a str) -> impl Iterator<Item = &'a Measured> {
+        self.measured.iter().filter(move |m| m.side == side && m.other == other)
+    }
+
     pub fn text(&self) -> String {
         let mut lines = vec![];
         lines.extend(self.machine.iter().map(|m| format!("machine\t{m}")));
@@ -88,7 +93,7 @@ fn number(field: &str) -> f64 {
 fn measured(fields: &[&str]) -> Measured {
     Measured {
         case: fields[1].into(),
-        target: fields[2].parse().ok(),
+        target: Target::read(fields[2]),
         side: fields[3].into(),
         other: fields[4].into(),
         ns: number(fields[5]),

@@ -1,7 +1,8 @@
 //! The tables of a run, as Markdown that also reads well as text.
 use crate::cases::{grouped, growth::SIZES};
 use crate::results::{Measured, Results};
-use crate::timing::{OURS, OWNED, RUST};
+use crate::targets::{judged, Judged};
+use crate::timing::{COPY, OURS, OWNED, RUST};
 
 /// A table with columns of even width; numbers stand to the right. Without rows it is nothing.
 fn table(head: &[&str], rows: &[Vec<String>]) -> String {
@@ -40,31 +41,31 @@ fn ratio(number: f64) -> String {
     }
 }
 
-fn quartiles(m: &Measured) -> String {
-    format!("{} to {}", ratio(m.ratio.low), ratio(m.ratio.high))
+/// A case by a name, the times of both sides, and the ratio with its quartiles.
+fn named(name: String, m: &Measured) -> Vec<String> {
+    let mut row = vec![name];
+    row.extend(figures(m));
+    row
 }
 
-pub fn is_met(m: &Measured) -> Option<bool> {
-    // As the table shows it: two digits.
-    m.target.map(|target| (m.ratio.median * 100.0).round() <= (target * 100.0).round())
-}
-
-/// The cases of one side against another.
-pub fn of<'a>(results: &'a Results, side: &'a str, other: &'a str) -> impl Iterator<Item = &'a Measured> {
-    results.measured.iter().filter(move |m| m.side == side && m.other == other)
+fn figures(m: &Measured) -> [String; 4] {
+    let quartiles = format!("{} to {}", ratio(m.ratio.low), ratio(m.ratio.high));
+    [ns(m.ns), ns(m.other_ns), ratio(m.ratio.median), quartiles]
 }
 
 /// Ours against the Rust, with what is to be reached.
 fn against_rust(results: &Results) -> String {
-    let row = |m: &Measured| {
-        let met = is_met(m).map_or("", |met| if met { "met" } else { "missed" });
-        let target = m.target.map_or(String::new(), |t| format!("{t:.2}"));
-        vec![m.case.clone(), ns(m.ns), ns(m.other_ns), ratio(m.ratio.median), quartiles(m), target, met.into()]
+    let row = |case: Judged| {
+        let mut row = named(case.by_rust.case.clone(), case.by_rust);
+        let met = case.is_met().map_or("", |met| if met { "met" } else { "missed" });
+        let target = case.by_rust.target.map_or(String::new(), |target| target.to_string());
+        row.extend([case.by_better.map_or(String::new(), ratio), target, met.into()]);
+        row
     };
-    let rows: Vec<_> = of(results, OURS, RUST).map(row).collect();
-    let met: Vec<bool> = of(results, OURS, RUST).filter_map(is_met).collect();
+    let rows: Vec<_> = judged(results).map(row).collect();
+    let met: Vec<bool> = judged(results).filter_map(|case| case.is_met()).collect();
     let count = met.iter().filter(|met| **met).count();
-    let head = ["case", "ours, ns", "Rust, ns", "ratio", "quartiles", "at most", ""];
+    let head = ["case", "ours, ns", "Rust, ns", "ratio", "quartiles", "by the better", "at most", ""];
     match met.len() {
         0 => table(&head, &rows),
         all => format!("{}\n{count} of {all} targets are met.\n", table(&head, &rows)),
@@ -73,31 +74,37 @@ fn against_rust(results: &Results) -> String {
 
 /// Where ours allocates its answer, as the Rust does.
 fn owned(results: &Results) -> String {
-    let row = |m: &Measured| vec![m.case.clone(), ns(m.ns), ns(m.other_ns), ratio(m.ratio.median), quartiles(m)];
-    table(
-        &["case", "ours, ns", "Rust, ns", "ratio", "quartiles"],
-        &of(results, OWNED, RUST).map(row).collect::<Vec<_>>(),
-    )
+    let rows: Vec<_> = results.of(OWNED, RUST).map(|m| named(m.case.clone(), m)).collect();
+    table(&["case", "ours, ns", "Rust, ns", "ratio", "quartiles"], &rows)
 }
 
-/// The peers, by the plain build and, if there is one, by that for the processor.
-fn peers(plain: &Results, native: Option<&Results>) -> String {
-    let is_peer = |m: &&Measured| m.side == OURS && m.other != RUST;
+/// Ours against others, by the plain build and, if there is one, by that for the processor. A name is given to each
+/// row that is wanted.
+fn beside(other: &str, plain: &Results, native: Option<&Results>, name: fn(&Measured) -> Option<String>) -> String {
     let row = |m: &Measured| {
-        let mut row =
-            vec![format!("{}: {}", m.other, m.case), ns(m.ns), ns(m.other_ns), ratio(m.ratio.median), quartiles(m)];
-        let same = |n: &&Measured| n.case == m.case && n.other == m.other;
-        if let Some(n) = native.and_then(|native| native.measured.iter().filter(is_peer).find(same)) {
-            row.extend([ns(n.ns), ns(n.other_ns), ratio(n.ratio.median), quartiles(n)]);
+        let mut row = named(name(m)?, m);
+        if let Some(n) = native.and_then(|native| native.of(&m.side, &m.other).find(|n| n.case == m.case)) {
+            row.extend(figures(n));
         }
-        row
+        Some(row)
     };
-    let rows: Vec<_> = plain.measured.iter().filter(is_peer).map(row).collect();
-    let mut head = vec!["case", "ours, ns", "peer, ns", "ratio", "quartiles"];
+    let rows: Vec<_> = plain.measured.iter().filter(|m| m.side == OURS).filter_map(row).collect();
+    let (its, its_here) = (format!("{other}, ns"), format!("{other}, this CPU"));
+    let mut head = vec!["case", "ours, ns", &its, "ratio", "quartiles"];
     if native.is_some() {
-        head.extend(["ours, this CPU", "peer, this CPU", "ratio", "quartiles"]);
+        head.extend(["ours, this CPU", &its_here, "ratio", "quartiles"]);
     }
     table(&head, &rows)
+}
+
+fn peers(plain: &Results, native: Option<&Results>) -> String {
+    let name = |m: &Measured| (m.other != RUST && m.other != COPY).then(|| format!("{}: {}", m.other, m.case));
+    beside("peer", plain, native, name)
+}
+
+/// Ours against a plain copy of the answer.
+fn copies(plain: &Results, native: Option<&Results>) -> String {
+    beside("copy", plain, native, |m| (m.other == COPY).then(|| m.case.clone()))
 }
 
 fn growth(results: &Results) -> String {
@@ -139,6 +146,7 @@ pub fn report(plain: &Results, native: Option<&Results>) -> String {
     }
     parts.push((format!("Ours with owned answers, built for {kind}"), owned(plain)));
     let also = native.map_or("", |_| ", then for this processor");
+    parts.push((format!("A copy of the answer's bytes, built for {kind}{also}"), copies(plain, native)));
     parts.push((format!("Peers, built for {kind}{also}"), peers(plain, native)));
     parts.push((format!("Growth, built for {kind}"), growth(plain)));
     parts.push(("Allocations of ours".into(), allocations(plain)));

@@ -34,8 +34,11 @@ pub struct Side<'a> {
 
 pub const OURS: &str = "ours";
 pub const RUST: &str = "Rust";
+pub const EIGEN: &str = "Eigen";
 /// Ours, with an answer that is allocated for each call, as the Rust's is.
 pub const OWNED: &str = "owned";
+/// A plain copy of the answer.
+pub const COPY: &str = "copy";
 
 impl<'a> Side<'a> {
     /// Calls in a row, all of it timed.

@@ -1,8 +1,9 @@
 //! Bit vectors of 65,535 bits: AND, OR, XOR, counts, slice.
-use super::Bench;
+use super::{copying, Bench};
 use crate::data::{Maker, BITS};
 use crate::peers::{self, Roaring};
-use crate::timing::{Side, OURS, OWNED, RUST};
+use crate::targets::of_rust;
+use crate::timing::{Side, COPY, OURS, OWNED, RUST};
 use base::scalar::bit;
 use base::vector::{BVectBorrowed, BVectOwned, VectorBorrowed, VectorOwned};
 use std::hint::black_box;
@@ -41,6 +42,7 @@ fn words<'a>(two: &'a Two, words: Words<'a>, peer: Roaring) -> Vec<Side<'a>> {
         Side::new(OWNED, move || {
             black_box((words.owned)(black_box(a), black_box(b)));
         }),
+        Side::new(COPY, copying(its.as_borrowed().data())),
     ];
     sides.extend(peers::roaring(two, peer));
     sides
@@ -115,11 +117,13 @@ pub fn run(bench: &mut Bench) {
     let and = words!(operator_and_into, operator_and, |a, b| rust_and(a, b));
     let or = words!(operator_or_into, operator_or, |a, b| a.operator_or(b));
     let xor = words!(operator_xor_into, operator_xor, |a, b| a.operator_xor(b));
-    bench.case("AND, 65,535 bits", Some(0.9), || words(&two, and, Roaring::And));
-    bench.case("OR, 65,535 bits", Some(0.9), || words(&two, or, Roaring::Or));
-    bench.case("XOR, 65,535 bits", Some(0.9), || words(&two, xor, Roaring::Xor));
-    bench.case("ones of AND, 65,535 bits", Some(1.1), || count!(&two, operator_dot, Roaring::OnesOfAnd));
-    bench.case("Hamming, 65,535 bits", Some(1.1), || count!(&two, operator_hamming, Roaring::Hamming));
-    bench.case("Jaccard, 65,535 bits", Some(1.1), || count!(&two, operator_jaccard, Roaring::Jaccard));
+    let target = bench.by_build(of_rust(0.9), None);
+    bench.case("AND, 65,535 bits", target, || words(&two, and, Roaring::And));
+    bench.case("OR, 65,535 bits", target, || words(&two, or, Roaring::Or));
+    bench.case("XOR, 65,535 bits", target, || words(&two, xor, Roaring::Xor));
+    let target = of_rust(0.9);
+    bench.case("ones of AND, 65,535 bits", target, || count!(&two, operator_dot, Roaring::OnesOfAnd));
+    bench.case("Hamming, 65,535 bits", target, || count!(&two, operator_hamming, Roaring::Hamming));
+    bench.case("Jaccard, 65,535 bits", target, || count!(&two, operator_jaccard, Roaring::Jaccard));
     bench.case("bit slice, 65,000 bits from bit 3", None, || slice(&two[0]));
 }

@@ -44,7 +44,7 @@ const CALLS: [Call; 5] = [
     ("check", |maker, n| for_an_entry(check(&maker.vectors(n)), n)),
     ("row of 100, entries of the state and the row", |maker, n| {
         let first = maker.whole_vector(n);
-        let rows = states::rows(maker, &first);
+        let rows = states::rows(maker, &first, 100);
         for_an_entry(states::row(&first, &rows), n + 100)
     }),
     ("average", |maker, n| for_an_entry(average(maker, n), n)),

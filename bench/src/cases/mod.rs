@@ -11,9 +11,12 @@ pub use sparse::{in_turn, same};
 
 use crate::allocations;
 use crate::results::{Allocations, Measured, Results};
+use crate::targets::{Build, Target};
 use crate::timing::{Rounds, Side, OURS, OWNED, RUST};
+use std::hint::black_box;
 
 pub struct Bench {
+    build: Build,
     /// Only cases whose name has this in it.
     only: String,
     results: Results,
@@ -28,13 +31,34 @@ pub fn grouped(n: u64) -> String {
     groups.map(|group| String::from_utf8_lossy(group)).collect::<Vec<_>>().join(",")
 }
 
+/// Copies a list to another of its length, and does nothing else. They begin half a page apart: where both begin at
+/// nearly the same place of a page, the C library's copy took some 30 times as long on one processor.
+fn copying<T: Copy>(list: &[T]) -> impl FnMut() {
+    let (n, page) = (list.len(), 4096 / std::mem::size_of::<T>());
+    let start = n.next_multiple_of(page) + page / 2;
+    let mut both = vec![list[0]; start + n];
+    both[..n].copy_from_slice(list);
+    move || {
+        let (from, to) = black_box(&mut both).split_at_mut(start);
+        to.copy_from_slice(&from[..n]);
+    }
+}
+
 impl Bench {
+    /// What holds in this build, of what holds in each.
+    fn by_build<T>(&self, plain: T, native: T) -> T {
+        match self.build {
+            Build::Plain => plain,
+            Build::Native => native,
+        }
+    }
+
     fn wants(&self, name: &str) -> bool {
         name.contains(&self.only)
     }
 
     /// A case: ours, the Rust, and whoever else there is.
-    fn case<'a>(&mut self, name: &str, target: Option<f64>, sides: impl FnOnce() -> Vec<Side<'a>>) {
+    fn case<'a>(&mut self, name: &str, target: Option<Target>, sides: impl FnOnce() -> Vec<Side<'a>>) {
         if !self.wants(name) {
             return;
         }
@@ -45,17 +69,17 @@ impl Bench {
     }
 
     /// A case in which ours grows, and so allocates.
-    fn case_that_grows<'a>(&mut self, name: &str, target: Option<f64>, sides: impl FnOnce() -> Vec<Side<'a>>) {
+    fn case_that_grows<'a>(&mut self, name: &str, target: Option<Target>, sides: impl FnOnce() -> Vec<Side<'a>>) {
         if self.wants(name) {
             self.timed(name, target, &mut sides());
         }
     }
 
-    fn timed(&mut self, name: &str, target: Option<f64>, sides: &mut [Side]) {
+    fn timed(&mut self, name: &str, target: Option<Target>, sides: &mut [Side]) {
         let rounds = Rounds::of(sides);
         assert!(sides[0].name == OURS && sides[1].name == RUST);
         for k in 1..sides.len() {
-            // Peers are others of ours. Where ours owns its answer, the other is the Rust.
+            // Peers and the copy are others of ours. Where ours owns its answer, the other is the Rust.
             let (side, other) = if sides[k].name == OWNED { (k, 1) } else { (0, k) };
             let measured = Measured {
                 case: name.into(),
@@ -73,9 +97,9 @@ impl Bench {
 }
 
 /// Runs the cases whose names have a text in them; of all of them, if it is empty.
-pub fn run(only: &str) -> Results {
+pub fn run(build: Build, only: &str) -> Results {
     allocations::warm();
-    let mut bench = Bench { only: only.into(), results: Results::default(), watched: (0, 0) };
+    let mut bench = Bench { build, only: only.into(), results: Results::default(), watched: (0, 0) };
     sparse::run(&mut bench);
     bits::run(&mut bench);
     states::run(&mut bench);

@@ -1,9 +1,12 @@
-//! Sparse vectors: add, sub, mul, dot, L2, check, slice.
-use super::{grouped, Bench};
+//! Sparse vectors: add, sub, mul, dot, L2, three sums, check, slice.
+use super::{copying, grouped, Bench};
 use crate::data::{Maker, Pair, Sparse, DIMS};
 use crate::peers::{self, Eigen};
-use crate::timing::{Side, OURS, OWNED, RUST};
+use crate::targets::{of_better, of_rust};
+use crate::timing::{Side, COPY, OURS, OWNED, RUST};
+use base::scalar::ScalarLike;
 use base::vector::{SVectBorrowed, SVectOwned, VectorBorrowed};
+use oxlanyard::ThreeSums;
 use std::hint::black_box;
 
 pub type Ours<'a> = oxlanyard::SVectBorrowed<'a>;
@@ -94,14 +97,15 @@ pub fn merged<'a>(pairs: &'a [Pair], merge: Merge<'a>) -> Vec<Side<'a>> {
     ]
 }
 
-pub fn folded<'a>(
+/// A call that makes one number or more.
+fn folded<'a, const N: usize>(
     pairs: &'a [Pair],
-    fold: fn(Ours<'a>, Ours<'a>) -> f32,
-    rust_fold: fn(Rust<'a>, Rust<'a>) -> f32,
+    fold: fn(Ours<'a>, Ours<'a>) -> [f32; N],
+    rust_fold: fn(Rust<'a>, Rust<'a>) -> [f32; N],
 ) -> Vec<Side<'a>> {
     for pair in pairs {
         let its = rust_fold(rust(&pair.a), rust(&pair.b));
-        assert_eq!(fold(ours(&pair.a), ours(&pair.b)).to_bits(), its.to_bits());
+        assert_eq!(fold(ours(&pair.a), ours(&pair.b)).map(f32::to_bits), its.map(f32::to_bits));
     }
     let (mut turn, mut its) = (in_turn(both(pairs, ours)), in_turn(both(pairs, rust)));
     vec![
@@ -117,11 +121,25 @@ pub fn folded<'a>(
 }
 
 pub fn dot(pairs: &[Pair]) -> Vec<Side<'_>> {
-    folded(pairs, |a, b| a.operator_dot(b).expect("valid vectors"), |a, b| a.operator_dot(b).to_f32())
+    folded(pairs, |a, b| [a.operator_dot(b).expect("valid vectors")], |a, b| [a.operator_dot(b).to_f32()])
 }
 
 fn l2(pairs: &[Pair]) -> Vec<Side<'_>> {
-    folded(pairs, |a, b| a.operator_l2(b).expect("valid vectors"), |a, b| a.operator_l2(b).to_f32())
+    folded(pairs, |a, b| [a.operator_l2(b).expect("valid vectors")], |a, b| [a.operator_l2(b).to_f32()])
+}
+
+/// The Rust has no call for the three sums. This is how its cosine takes them.
+fn rust_three_sums(a: Rust, b: Rust) -> [f32; 3] {
+    let xy = f32::reduce_sum_of_sparse_xy(a.indexes(), a.values(), b.indexes(), b.values());
+    [xy, f32::reduce_sum_of_x2(a.values()), f32::reduce_sum_of_x2(b.values())]
+}
+
+fn three_sums(pairs: &[Pair]) -> Vec<Side<'_>> {
+    let fold = |a: Ours, b| {
+        let ThreeSums { xy, x2, y2 } = a.three_sums(b).expect("valid vectors");
+        [xy, x2, y2]
+    };
+    folded(pairs, fold, |a, b| rust_three_sums(a, b))
 }
 
 pub fn check(vectors: &[Sparse]) -> Vec<Side<'_>> {
@@ -143,6 +161,7 @@ fn slice(v: &Sparse) -> Vec<Side<'_>> {
     let its = rust(v).subvector(bounds()).expect("good bounds");
     let lent = ours(v).subvector_into(bounds(), &mut indexes, &mut values).expect("good bounds");
     same((lent.indexes(), lent.values()), (its.indexes(), its.values()));
+    let (mut copy_indexes, mut copy_values) = (copying(its.indexes()), copying(its.values()));
     let (a, b) = (ours(v), rust(v));
     vec![
         Side::new(OURS, move || {
@@ -154,6 +173,10 @@ fn slice(v: &Sparse) -> Vec<Side<'_>> {
         Side::new(OWNED, move || {
             black_box(black_box(a).subvector(bounds()).expect("good bounds"));
         }),
+        Side::new(COPY, move || {
+            copy_indexes();
+            copy_values();
+        }),
     ]
 }
 
@@ -162,21 +185,29 @@ fn with<'a>(mut sides: Vec<Side<'a>>, peer: Option<Side<'a>>) -> Vec<Side<'a>> {
     sides
 }
 
+/// The calls on pairs of n entries each.
+fn on_pairs(bench: &mut Bench, pairs: &[Pair], n: usize, percent: usize) {
+    let name = |call: &str| format!("{call}, {} entries each, overlap {percent}%", grouped(n as u64));
+    let peer = |call| peers::eigen(pairs, call);
+    let target = bench.by_build(of_rust(if percent < 90 { 0.6 } else { 0.75 }), of_rust(0.9));
+    bench.case(&name("add"), target, || with(merged(pairs, add()), peer(Eigen::Add)));
+    bench.case(&name("sub"), target, || with(merged(pairs, sub()), peer(Eigen::Sub)));
+    let target = of_better(if percent < 90 { 0.8 } else { 1.0 });
+    bench.case(&name("mul"), target, || with(merged(pairs, mul()), peer(Eigen::Mul)));
+    bench.case(&name("dot"), target, || with(dot(pairs), peer(Eigen::Dot)));
+    bench.case(&name("L2"), target, || with(l2(pairs), peer(Eigen::L2)));
+    bench.case(&name("three sums"), target, || with(three_sums(pairs), peer(Eigen::ThreeSums)));
+}
+
 pub fn run(bench: &mut Bench) {
     let mut maker = Maker::new(7);
     for n in [1_000, 100_000] {
-        for percent in [10, 90] {
-            let pairs = maker.pairs(n, percent);
-            let name = |call: &str| format!("{call}, {} entries each, overlap {percent}%", grouped(n as u64));
-            let peer = |call| peers::eigen(&pairs, call);
-            bench.case(&name("add"), Some(0.75), || with(merged(&pairs, add()), peer(Eigen::Add)));
-            bench.case(&name("sub"), Some(0.75), || with(merged(&pairs, sub()), peer(Eigen::Sub)));
-            bench.case(&name("mul"), Some(1.0), || with(merged(&pairs, mul()), peer(Eigen::Mul)));
-            bench.case(&name("dot"), Some(1.0), || with(dot(&pairs), peer(Eigen::Dot)));
-            bench.case(&name("L2"), Some(1.0), || with(l2(&pairs), peer(Eigen::L2)));
+        for percent in [10, 50, 90] {
+            on_pairs(bench, &maker.pairs(n, percent), n, percent);
         }
     }
     let vectors = [maker.vector(100_000), maker.vector(100_000)];
-    bench.case("check, 100,000 entries", Some(0.4), || check(&vectors));
-    bench.case("sparse slice, half of 100,000 entries", Some(1.0), || slice(&vectors[0]));
+    bench.case("check, 100,000 entries", of_rust(0.4), || check(&vectors));
+    let target = bench.by_build(of_rust(0.9), None);
+    bench.case("sparse slice, half of 100,000 entries", target, || slice(&vectors[0]));
 }

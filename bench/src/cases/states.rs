@@ -1,7 +1,8 @@
 //! States of an aggregate: a row, a combine.
 use super::sparse::{in_turn, ours, rust, same, Ours};
-use super::Bench;
+use super::{grouped, Bench};
 use crate::data::{Maker, Pair, Sparse};
+use crate::targets::of_rust;
 use crate::timing::{Side, OURS, RUST};
 use oxlanyard::Aggregate;
 use pgrx::datum::{reset, Internal};
@@ -28,9 +29,9 @@ fn same_states(ours: &Aggregate, rust: Internal) {
     assert_eq!((ours.capacity(), ours.count() as u64), (its.capacity() as usize, its.count()));
 }
 
-/// Rows of 100 whole numbers, each followed by its negation: after two calls the state is as it was.
-pub fn rows(maker: &mut Maker, first: &Sparse) -> Vec<Sparse> {
-    let rows: Vec<Sparse> = (0..32).map(|_| maker.row(first, 100)).collect();
+/// Rows of n whole numbers, each followed by its negation: after two calls the state is as it was. Long rows are fewer.
+pub fn rows(maker: &mut Maker, first: &Sparse, n: usize) -> Vec<Sparse> {
+    let rows: Vec<Sparse> = (0..(40_000 / n).min(32)).map(|_| maker.row(first, n)).collect();
     rows.into_iter().flat_map(|row| [row.negated(), row]).collect()
 }
 
@@ -109,9 +110,12 @@ fn combine_and_grow(pair: &Pair) -> Vec<Side<'static>> {
 pub fn run(bench: &mut Bench) {
     let mut maker = Maker::new(9);
     let first = maker.whole_vector(100_000);
-    let rows = rows(&mut maker, &first);
-    bench.case("row of 100 into a state of 100,000", Some(0.6), || row(&first, &rows));
+    for (n, at_most) in [(100, 0.3), (1_000, 0.5), (10_000, 0.5)] {
+        let rows = rows(&mut maker, &first, n);
+        let name = format!("row of {} into a state of 100,000", grouped(n as u64));
+        bench.case(&name, of_rust(at_most), || row(&first, &rows));
+    }
     let pair = maker.whole_pair(100_000, 10);
-    bench.case("combine, two states of 100,000", Some(0.6), || combine(&pair));
-    bench.case_that_grows("combine, two states of 100,000, and grow", Some(0.6), || combine_and_grow(&pair));
+    bench.case("combine, two states of 100,000", of_rust(0.55), || combine(&pair));
+    bench.case_that_grows("combine, two states of 100,000, and grow", of_rust(0.6), || combine_and_grow(&pair));
 }

@@ -2,13 +2,14 @@
 //! installed when the bench was compiled has no side.
 
 /// The calls of Eigen, by the numbers of peers.cpp.
-#[derive(Clone, Copy, PartialEq)]
+#[derive(Clone, Copy)]
 pub enum Eigen {
     Add,
     Sub,
     Mul,
     Dot,
     L2,
+    ThreeSums,
 }
 
 /// The calls of CRoaring, by the numbers of peers.cpp.

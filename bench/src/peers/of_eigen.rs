@@ -2,7 +2,8 @@
 use super::Eigen;
 use crate::cases::{in_turn, same};
 use crate::data::{Pair, Sparse, DIMS};
-use crate::timing::Side;
+use crate::timing::{Side, EIGEN};
+use oxlanyard::{SVectOwned, ThreeSums};
 use std::ffi::c_void;
 use std::hint::black_box;
 use std::rc::Rc;
@@ -12,7 +13,7 @@ extern "C" {
     fn peer_eigen_drop(v: *mut c_void);
     fn peer_eigen_merge(which: i32, a: *const c_void, b: *const c_void) -> usize;
     fn peer_eigen_answer(which: i32, a: *const c_void, b: *const c_void, i: *mut u32, v: *mut f32) -> usize;
-    fn peer_eigen_fold(which: i32, a: *const c_void, b: *const c_void) -> f32;
+    fn peer_eigen_fold(which: i32, a: *const c_void, b: *const c_void, sums: *mut f32);
 }
 
 struct Vector(*mut c_void);
@@ -32,17 +33,29 @@ impl Drop for Vector {
     }
 }
 
+/// Eigen's sum, or its three.
+fn fold(call: Eigen, a: &Vector, b: &Vector) -> [f32; 3] {
+    let mut sums = [0.0; 3];
+    // SAFETY: both vectors are Eigen's, and no call has more than three sums.
+    unsafe { peer_eigen_fold(call as i32, a.0, b.0, sums.as_mut_ptr()) };
+    sums
+}
+
 /// Stops if Eigen's answer is not ours: to the bit where each value comes of one operation, else to rounding.
 fn compared(pair: &Pair, call: Eigen, a: &Vector, b: &Vector) {
-    let new = |v: &Sparse| oxlanyard::SVectOwned::new_checked(DIMS, v.indexes.clone(), v.values.clone()).unwrap();
+    let new = |v: &Sparse| SVectOwned::new_checked(DIMS, v.indexes.clone(), v.values.clone()).unwrap();
     let (x, y) = (new(&pair.a), new(&pair.b));
     let (x, y) = (x.as_borrowed(), y.as_borrowed());
     let ours = match call {
         Eigen::Add => x.operator_add(y).unwrap(),
         Eigen::Sub => x.operator_sub(y).unwrap(),
         Eigen::Mul => x.operator_mul(y).unwrap(),
-        Eigen::Dot => return close(-x.operator_dot(y).unwrap(), unsafe { peer_eigen_fold(3, a.0, b.0) }),
-        Eigen::L2 => return close(x.operator_l2(y).unwrap(), unsafe { peer_eigen_fold(4, a.0, b.0) }),
+        Eigen::Dot => return close([-x.operator_dot(y).unwrap(), 0.0, 0.0], fold(call, a, b)),
+        Eigen::L2 => return close([x.operator_l2(y).unwrap(), 0.0, 0.0], fold(call, a, b)),
+        Eigen::ThreeSums => {
+            let ThreeSums { xy, x2, y2 } = x.three_sums(y).unwrap();
+            return close([xy, x2, y2], fold(call, a, b));
+        }
     };
     let room = pair.a.indexes.len() + pair.b.indexes.len();
     let (mut i, mut v) = (vec![0; room], vec![0.0; room]);
@@ -51,8 +64,9 @@ fn compared(pair: &Pair, call: Eigen, a: &Vector, b: &Vector) {
     same((ours.indexes(), ours.values()), (&i[..n], &v[..n]));
 }
 
-fn close(ours: f32, its: f32) {
-    assert!((ours - its).abs() <= 1e-3 * ours.abs().max(its.abs()), "ours {ours}, Eigen {its}");
+fn close(ours: [f32; 3], its: [f32; 3]) {
+    let near = |(x, y): (&f32, &f32)| (x - y).abs() <= 1e-3 * x.abs().max(y.abs());
+    assert!(ours.iter().zip(&its).all(near), "ours {ours:?}, Eigen {its:?}");
 }
 
 pub fn eigen(pairs: &[Pair], call: Eigen) -> Option<Side<'static>> {
@@ -61,16 +75,16 @@ pub fn eigen(pairs: &[Pair], call: Eigen) -> Option<Side<'static>> {
         compared(pair, call, a, b);
     }
     let mut turn = in_turn(vectors);
-    // SAFETY of both: the vectors are Eigen's.
-    Some(if call == Eigen::Dot || call == Eigen::L2 {
-        Side::new("Eigen", move || {
+    Some(if matches!(call, Eigen::Add | Eigen::Sub | Eigen::Mul) {
+        Side::new(EIGEN, move || {
             let (a, b) = turn();
-            black_box(unsafe { peer_eigen_fold(call as i32, a.0, b.0) });
+            // SAFETY: the vectors are Eigen's.
+            black_box(unsafe { peer_eigen_merge(call as i32, a.0, b.0) });
         })
     } else {
-        Side::new("Eigen", move || {
+        Side::new(EIGEN, move || {
             let (a, b) = turn();
-            black_box(unsafe { peer_eigen_merge(call as i32, a.0, b.0) });
+            black_box(fold(call, &a, &b));
         })
     })
 }

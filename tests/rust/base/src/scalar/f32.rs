@@ -1,7 +1,7 @@
 //! Stands for f32.rs, which is not in the text. It is ours, and no evidence about that file.
 //!
 //! The steps on one or two floats are the plain ones. `mask` keeps the value or gives +0, without a branch. The sums are
-//! plain merges by rising index, and each step is rounded once: as fast as plain Rust does it, since the bench times them
+//! plain loops by rising index, and each step is rounded once: as fast as plain Rust does it, since the bench times them
 //! as the Rust's. So dot and L2 are compared only where every order gives the same number.
 use super::ScalarLike;
 use std::cmp::Ordering;
@@ -94,11 +94,11 @@ impl ScalarLike for f32 {
         lval[l..].iter().chain(&rval[r..]).for_each(|&x| sum += x * x);
         sum
     }
+    fn reduce_sum_of_x2(this: &[Self]) -> f32 {
+        this.iter().fold(0.0, |sum, &x| sum + x * x)
+    }
 
     // What follows is never called by a call that is compared.
-    fn reduce_sum_of_x2(_: &[Self]) -> f32 {
-        unimplemented!()
-    }
     fn reduce_sum_of_x(_: &[Self]) -> f32 {
         unimplemented!()
     }
