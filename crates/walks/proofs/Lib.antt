@@ -1,5 +1,6 @@
--- Laws of a walk over two vectors, of its stores, and of a search by halving.
+-- Laws of a walk over two vectors, of its stores, of a search by halving, and of which index is smaller.
 pub mod Turns
 pub mod Walk
 pub mod Stores
 pub mod Halves
+pub mod Choices

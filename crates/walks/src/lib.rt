@@ -3,7 +3,10 @@
 use sparse::Cell;
 ghost use mathlib.Core.Path.{_≡_};
 ghost use Prim.Native.Nat.{_+_, _<_, min};
-ghost use lib.ListN.{length};
+ghost use mathlib.Core.Bool.{cond};
+ghost use lib.Dec.{ltb, eqb};
+ghost use lib.Ieee.{nan};
+ghost use lib.ListN.{length, getD};
 ghost use Rattle.sparse.specs.Cells.{keep};
 ghost use Rattle.sparse.specs.Sound.{Rising, Split};
 ghost use Rattle.sparse.specs.declared.Cell.the-variants.{Empty, Full};
@@ -118,6 +121,32 @@ pub fn partition_point(indexes: &[u32], place: u32) -> usize
         }
     }
     low
+}
+
+// The smaller of two indexes.
+pub fn lower(i: u32, j: u32) -> u32
+    ensures { λ r. ⌜ r ≡ cond (ltb i j) i j ⌝ }
+{
+    if i < j { i } else { j }
+}
+
+// The value at the smaller of two indexes: x or y, or s where both are the same. It is read at one of four places: a
+// choice between floats would be a branch on x86-64.
+pub fn value_at(i: u32, j: u32, x: f32, y: f32, s: f32) -> f32
+    ensures { λ r. ⌜ r ≡ cond (eqb i j) s (cond (ltb i j) x y) ⌝ }
+{
+    let w = [s, x, y, s];
+    let k = (i <= j) as usize + 2 * (j <= i) as usize;
+    w[k]
+}
+
+// The entry p of x, or the entry q of y: one address is chosen, and read.
+pub fn pick(left: bool, x: &[f32], p: usize, y: &[f32], q: usize) -> f32
+    requires { ⌜ (p < length (now x)) × (q < length (now y)) ⌝ }
+    ensures { λ r. ⌜ r ≡ cond left (getD (now (x .entry)) p nan) (getD (now (y .entry)) q nan) ⌝ }
+{
+    let v = if left { &x[p] } else { &y[q] };
+    *v
 }
 
 // The smaller of two lengths.
