@@ -2,6 +2,7 @@
 // Here are its checks.
 
 use refusal::Checked;
+ghost use mathlib.Core.Bool.{true, false};
 ghost use mathlib.Core.Path.{_≡_};
 ghost use lib.ListN.{length};
 ghost use Rattle.places.specs.Below.{anyBelow};
@@ -14,24 +15,6 @@ ghost use Rattle.sparse.specs.Calls.{falls, tooHigh, zeroAt, checkedOf, 
 pub enum Cell {
     Empty,
     Full(f32),
-}
-
-// Whether some index is not above the one before. All are looked at, so that the compiler can take several at
-// once; so in `some_zero`.
-fn some_fall(indexes: &[u32]) -> bool
-    ensures { λ r. ⌜ r ≡ anyBelow (falls (now (indexes .entry))) (length (now (indexes .entry))) ⌝ }
-{
-    let mut found = false;
-    let mut i: usize = 1;
-    while i < indexes.len() {
-        let before = indexes[i - 1];
-        let here = indexes[i];
-        if here <= before {
-            found = true;
-        }
-        i += 1;
-    }
-    found
 }
 
 // The first entry whose index is not above the one before, or the length.
@@ -48,6 +31,41 @@ fn first_fall(indexes: &[u32]) -> usize
         i += 1;
     }
     indexes.len()
+}
+
+// Whether all indexes are below 2^31 and each is surely above the one before: of two such numbers the first less
+// the second, modulo 2^32, has its highest bit set where the first is smaller. All are looked at, and by steps of
+// which the compiler can take several at once; so in `some_zero`.
+fn all_rise(indexes: &[u32]) -> bool
+    ensures { λ r. ⌜ (r ≡ true → anyBelow (falls (now (indexes .entry))) (length (now (indexes .entry))) ≡ false) ⌝ }
+{
+    if indexes.len() == 0 {
+        return true;
+    }
+    let mut all: u32 = 2147483648;
+    let mut any: u32 = indexes[0];
+    let mut i: usize = 1;
+    while i < indexes.len() {
+        let before = indexes[i - 1];
+        let here = indexes[i];
+        all = all & std::num::wrapping_sub_u32(before, here);
+        any = any | here;
+        i += 1;
+    }
+    if all < 2147483648 {
+        return false;
+    }
+    any < 2147483648
+}
+
+// Whether some index is not above the one before. They are looked at one by one only where `all_rise` is not sure.
+fn some_fall(indexes: &[u32]) -> bool
+    ensures { λ r. ⌜ r ≡ anyBelow (falls (now (indexes .entry))) (length (now (indexes .entry))) ⌝ }
+{
+    if all_rise(indexes) {
+        return false;
+    }
+    first_fall(indexes) < indexes.len()
 }
 
 // Whether the last index is at or above `dims`.
