@@ -4,6 +4,7 @@
 ghost use mathlib.Core.Path.{_≡_};
 ghost use mathlib.Core.List.{_++_};
 ghost use Prim.Native.Nat.{_≤_};
+ghost use lib.Count.{ones};
 ghost use lib.ListN.{length, drop};
 ghost use Rattle.bits.specs.Words.{Alike};
 ghost use Rattle.bit_words.specs.Ops.{join};
@@ -27,18 +28,26 @@ fn joined(op: Op, x: u64, y: u64) -> u64
     }
 }
 
+// The number of ones of a word, as wide as the word: a sum of such numbers is not narrowed at each step, which
+// would cost a loop over vectors of words two steps a turn.
+fn ones_in(x: u64) -> u64
+    ensures { λ r. ⌜ r ≡ ones x ⌝ }
+{
+    u64::count_ones(x) as u64
+}
+
 // The ones of a combination of two lists of as many words.
 pub fn ones_of(op: Op, a: &[u64], b: &[u64]) -> u32
     requires { ⌜ Alike (now a) (now b) ⌝ }
     ensures { λ r. ⌜ r ≡ onesOf op (now (a .entry)) (now (b .entry)) ⌝ }
 {
-    let mut n: u32 = 0;
+    let mut n: u64 = 0;
     let mut i: usize = 0;
     while i < a.len() {
-        n += u64::count_ones(joined(op, a[i], b[i]));
+        n += ones_in(joined(op, a[i], b[i]));
         i += 1;
     }
-    n
+    n as u32
 }
 
 // Two counts of one walk.
@@ -52,17 +61,20 @@ pub fn ones_of_both(a: &[u64], b: &[u64]) -> Two
     requires { ⌜ Alike (now a) (now b) ⌝ }
     ensures { λ r. ⌜ (r .and ≡ onesOf Op.And (now (a .entry)) (now (b .entry))) × (r .or ≡ onesOf Op.Or (now (a .entry)) (now (b .entry))) ⌝ }
 {
-    let mut and: u32 = 0;
-    let mut or: u32 = 0;
+    let mut and: u64 = 0;
+    let mut or: u64 = 0;
     let mut i: usize = 0;
     while i < a.len() {
         let x = a[i];
         let y = b[i];
-        and += u64::count_ones(joined(Op::And, x, y));
-        or += u64::count_ones(joined(Op::Or, x, y));
+        and += ones_in(joined(Op::And, x, y));
+        or += ones_in(joined(Op::Or, x, y));
         i += 1;
     }
-    Two { and, or }
+    Two {
+        and: and as u32,
+        or: or as u32,
+    }
 }
 
 // Writes a combination of two lists of as many words to the front of `out`.

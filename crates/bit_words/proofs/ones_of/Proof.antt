@@ -2,21 +2,22 @@
 -- The measure is the number of words left. Assumes nothing.
 use borrow.Author.Needs.{needs}
 use native.Mathlib.Omega.{arith}
-use Prim.Native.Nat.{_-_, _≤_}
-use mathlib.Core.Path.{_≡_}
+use Prim.Native.Nat.{_+_, _-_, _≤_, _<_}
+use mathlib.Core.Path.{_≡_, ap, _∙_}
 use lib.ListN.{length}
+use lib.Count.{ones}
 use Rattle.bit_words.proofs.Ones.{FirstOnes, ones-none, ones-more, ones-fit}
 use Rattle.bit_words.proofs.ones_of.Statement.{statement}
 use Rattle.bit_words.proofs.ones_of.Tie as tie
 
 abbrev Inv-loop : tie.InvT-loop
-Inv-loop op a b n₀ i₀ n i = (i ≤ length a) × FirstOnes op a b i n
+Inv-loop op a b n₀ i₀ n i = (i ≤ length a) × FirstOnes op a b i n × (n < 4294967296)
 
 abbrev μ-loop : tie.MeasureT-loop
 μ-loop op a b n₀ i₀ n i = length a - i
 
 loop-holds : tie.Need-loop-holds Inv-loop μ-loop
-loop-holds c = (omega arith, ones-none)
+loop-holds c = (omega arith, ones-none, omega arith)
 
 mul-joined : tie.Need-mul-joined Inv-loop μ-loop
 mul-joined c = search needs
@@ -33,8 +34,16 @@ shared-slice-read-joined-2 c = search needs
 joined-requires : tie.Need-joined-requires Inv-loop μ-loop
 joined-requires c κs = search needs
 
+ones-in-requires : tie.Need-ones-in-requires Inv-loop μ-loop
+ones-in-requires c κs = search needs
+
 add-n : tie.Need-add-n Inv-loop μ-loop
-add-n c = record { fits = ones-fit (c .joined .result) (c .before .before .before .before .loop .inv .1) (omega arith) (omega arith) }
+add-n c =
+    let j = c .before in
+    let h : j .before .before .before .before .loop .n + ones (j .joined .result) < 4294967296 =
+    ones-fit (j .joined .result) (j .before .before .before .before .loop .inv .1) (omega arith) (omega arith)
+    in
+    omega (arith, h, c .ones-in .ensures)
 
 add-i : tie.Need-add-i Inv-loop μ-loop
 add-i c = search needs
@@ -44,10 +53,15 @@ loop-less c = search needs
 
 loop-again : tie.Need-loop-again Inv-loop μ-loop
 loop-again c =
-    let l = c .before .before .before .before in
+    let j = c .before in
+    let l = j .before .before .before .before in
     let x = l .before .before .shared-slice-known .given (l .loop .i) .fits in
     let y = l .before .shared-slice-known2 .given (l .loop .i) .fits in
-    (omega arith, ones-more (l .loop .inv .1) x y (c .joined .ensures))
+    let h : l .loop .n + ones (j .joined .result) < 4294967296 = ones-fit (j .joined .result) (l .loop .inv .1) (omega arith) (omega arith) in
+    (omega arith, rw (c .ones-in .ensures) (ones-more (l .loop .inv .1) x y (j .joined .ensures)), omega (arith, h, c .ones-in .ensures))
+
+cast-result : tie.Need-cast-result Inv-loop μ-loop
+cast-result c = omega (arith, c .before .loop .inv .2)
 
 returns : tie.Need-returns Inv-loop μ-loop
 returns c =
@@ -66,8 +80,10 @@ ones-of-spec =
     mul-joined-2
     shared-slice-read-joined-2
     joined-requires
+    ones-in-requires
     add-n
     add-i
     loop-less
     loop-again
+    cast-result
     returns)
