@@ -85,7 +85,7 @@ fn plain_step(
     let t = walks::one_turn(&si[at..cap], &sv[at..cap], 0, ib, vb, q);
     let x = t.x;
     let y = t.y;
-    let z = merges::add_cells(x, y);
+    let z = steps::add_cells(x, y);
     let next = walks::put(si, sv, n, t.place, z);
     Step {
         taken: t.p,

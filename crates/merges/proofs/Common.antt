@@ -20,7 +20,8 @@ use Rattle.walks.specs.Walk.{Taken, Turned, Put, putCount}
 use Rattle.walks.specs.declared.Turn.{Turn}
 use Rattle.walks.proofs.Stores.{put-most, Written, written-empty, written-lengths}
 use Rattle.walks.proofs.Walk.{Going, kept-up, taken-next}
-use Rattle.merges.specs.Algebra.{multiplied, joins, commonEnd, commonTurns}
+use Rattle.steps.specs.Places.{multiplied}
+use Rattle.merges.specs.Algebra.{joins, commonEnd, commonTurns}
 use Rattle.merges.specs.Loops.{Ready, Fills}
 use Rattle.merges.specs.declared.Op.the-variants.{Mul}
 use Rattle.merges.proofs.Made.{joinAt, Made, made-start, made-more, made-merged}

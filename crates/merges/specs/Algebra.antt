@@ -4,33 +4,12 @@ use Prim.Native.Nat.{ℕ, suc, _+_, _-_, min}
 use mathlib.Core.Bool.{_||_, cond}
 use lib.Dec.{eqb}
 use lib.ListN.{getD}
-use lib.Ieee.{binary32, add, sub, mul, neg}
 use Rattle.places.specs.Below.{countBelow}
-use Rattle.sparse.specs.Cells.{keep}
 use Rattle.sparse.specs.Vectors.{Vector, size, at, vectorOf, inUnion}
 use Rattle.sparse.specs.declared.Cell.{Cell}
-use Rattle.sparse.specs.declared.Cell.the-variants.{Empty, Full}
+use Rattle.steps.specs.Places.{added, subtracted, multiplied}
 use Rattle.merges.specs.declared.Op.{Op}
 use Rattle.merges.specs.declared.Op.the-variants.{Add, Sub, Mul}
-
--- "an index in one operand keeps that value, an index in both gets the sum; zeros are dropped"
-abbrev pub added : Cell → Cell → Cell
-added Empty y = y
-added (Full a) Empty = Full a
-added (Full a) (Full b) = keep (add binary32 a b)
-
--- "the same with a minus b; an entry only in b is negated"
-abbrev pub subtracted : Cell → Cell → Cell
-subtracted Empty Empty = Empty
-subtracted Empty (Full b) = Full (neg b)
-subtracted (Full a) Empty = Full a
-subtracted (Full a) (Full b) = keep (sub binary32 a b)
-
--- "indexes in both only, products that are zero dropped"
-abbrev pub multiplied : Cell → Cell → Cell
-multiplied Empty y = Empty
-multiplied (Full a) Empty = Empty
-multiplied (Full a) (Full b) = keep (mul binary32 a b)
 
 abbrev pub joined : Op → Cell → Cell → Cell
 joined Add = added

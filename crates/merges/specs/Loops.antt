@@ -1,11 +1,14 @@
 -- What the loops that merge promise to the calls above them. A user's promises do not cite these.
 use Prim.Native.Nat.{ℕ, _≤_}
+use mathlib.Core.Bool.{Bool, true, false}
 use mathlib.Core.List.{List, _++_}
 use mathlib.Core.Path.{_≡_}
 use lib.ListN.{length, drop}
 use lib.Ieee.{Float}
 use Rattle.sparse.specs.Vectors.{Vector, size}
 use Rattle.sparse.specs.Sound.{Sound}
+use Rattle.merges.specs.declared.Op.{Op}
+use Rattle.merges.specs.declared.Op.the-variants.{Add, Sub}
 use Rattle.merges.specs.declared.Both.{Both}
 
 -- two vectors of equal dims that passed, and room for n entries
@@ -21,3 +24,10 @@ pub record Fills (v : Vector) (turns : ℕ) (oi : List ℕ) (ov : List Float) (r
   pub turned : r .turns ≡ turns
   pub indexes : oi′ ≡ v .indexes ++ drop (size v) oi
   pub values : ov′ ≡ v .values ++ drop (size v) ov
+
+-- ---- sums and differences
+
+-- a difference, or a sum
+abbrev pub opOf : Bool → Op
+opOf true = Sub
+opOf false = Add

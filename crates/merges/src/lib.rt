@@ -3,14 +3,13 @@
 
 use refusal::Checked;
 use refusal::Merged;
-use sparse::Cell;
 ghost use mathlib.Core.Path.{_≡_};
 ghost use Prim.Native.Nat.{_+_, _≤_, min};
 ghost use lib.ListN.{length};
 ghost use Rattle.sparse.specs.Vectors.{vector};
-ghost use Rattle.merges.specs.Algebra.{added, subtracted, multiplied, joined, joins, unionTurns, commonTurns, turnsOf, roomFor};
+ghost use Rattle.merges.specs.Algebra.{joins, unionTurns, commonTurns, turnsOf, roomFor};
 ghost use Rattle.merges.specs.Calls.{Joins};
-ghost use Rattle.merges.specs.Loops.{Ready, Fills};
+ghost use Rattle.merges.specs.Loops.{Ready, Fills, opOf};
 ghost use Rattle.merges.specs.declared.Op.the-variants.{Add, Sub, Mul};
 
 // How two places are put together.
@@ -20,67 +19,16 @@ pub enum Op {
     Mul,
 }
 
-// One place of a sum. For the merge in place too.
-pub fn add_cells(x: Cell, y: Cell) -> Cell
-    ensures { λ r. ⌜ r ≡ added x y ⌝ }
-{
-    match x {
-        Cell::Full(a) => match y {
-            Cell::Full(b) => walks::kept(a + b),
-            Cell::Empty => Cell::Full(a),
-        },
-        Cell::Empty => y,
-    }
-}
-
-// One place of a difference.
-fn sub_cells(x: Cell, y: Cell) -> Cell
-    ensures { λ r. ⌜ r ≡ subtracted x y ⌝ }
-{
-    match x {
-        Cell::Full(a) => match y {
-            Cell::Full(b) => walks::kept(a - b),
-            Cell::Empty => Cell::Full(a),
-        },
-        Cell::Empty => match y {
-            Cell::Full(b) => Cell::Full(-b),
-            Cell::Empty => Cell::Empty,
-        },
-    }
-}
-
-// One place of a product.
-fn mul_cells(x: Cell, y: Cell) -> Cell
-    ensures { λ r. ⌜ r ≡ multiplied x y ⌝ }
-{
-    match x {
-        Cell::Full(a) => match y {
-            Cell::Full(b) => walks::kept(a * b),
-            Cell::Empty => Cell::Empty,
-        },
-        Cell::Empty => Cell::Empty,
-    }
-}
-
-fn join_cells(op: Op, x: Cell, y: Cell) -> Cell
-    ensures { λ r. ⌜ r ≡ joined op x y ⌝ }
-{
-    match op {
-        Op::Add => add_cells(x, y),
-        Op::Sub => sub_cells(x, y),
-        Op::Mul => mul_cells(x, y),
-    }
-}
-
 // The entries written, and the turns taken.
 pub struct Both {
     pub len: usize,
     pub turns: usize,
 }
 
-// Writes what two vectors of equal dims give, walking over both to the end of both.
+// Writes the sum or the difference of two vectors of equal dims, walking over both to the end of both. How many of the
+// last turns met in one place says which run is the better one next.
 fn merge(
-    op: Op,
+    negate: bool,
     dims: u32,
     ia: &[u32],
     va: &[f32],
@@ -90,25 +38,25 @@ fn merge(
     ov: &mut [f32],
 ) -> Both
     requires { ⌜ Ready (vector dims (now ia) (now va)) (vector dims (now ib) (now vb)) (length (now ia) + length (now ib)) (now oi) (now ov) ⌝ }
-    ensures { λ r. ⌜ Fills (joins op (vector dims (now (ia .entry)) (now (va .entry))) (vector dims (now (ib .entry)) (now (vb .entry)))) (unionTurns (vector dims (now (ia .entry)) (now (va .entry))) (vector dims (now (ib .entry)) (now (vb .entry)))) (now (oi .entry)) (now (ov .entry)) r (now (oi .exit)) (now (ov .exit)) ⌝ }
+    ensures { λ r. ⌜ Fills (joins (opOf negate) (vector dims (now (ia .entry)) (now (va .entry))) (vector dims (now (ib .entry)) (now (vb .entry)))) (unionTurns (vector dims (now (ia .entry)) (now (va .entry))) (vector dims (now (ib .entry)) (now (vb .entry)))) (now (oi .entry)) (now (ov .entry)) r (now (oi .exit)) (now (ov .exit)) ⌝ }
 {
     let mut p: usize = 0;
     let mut q: usize = 0;
     let mut n: usize = 0;
     let mut turns: usize = 0;
-    while p + q < ia.len() + ib.len() {
-        let t = walks::one_turn(ia, va, p, ib, vb, q);
-        let x = t.x;
-        let y = t.y;
-        let z = join_cells(op, x, y);
-        n = walks::put(oi, ov, n, t.place, z);
-        p = t.p;
-        q = t.q;
-        turns += 1;
+    let mut quick = true;
+    while p < ia.len() && q < ib.len() {
+        let r = runs::any_run(negate, quick, ia, va, p, ib, vb, q, oi, ov, n);
+        quick = r.p + r.q < p + q + 104;
+        p = r.p;
+        q = r.q;
+        n = r.n;
+        turns += r.turns;
     }
+    let r = runs::finish(negate, ia, va, p, ib, vb, q, oi, ov, n);
     Both {
-        len: n,
-        turns: turns,
+        len: r.n,
+        turns: turns + r.turns,
     }
 }
 
@@ -128,20 +76,17 @@ fn multiply(
     let mut p: usize = 0;
     let mut q: usize = 0;
     let mut len: usize = 0;
-    let mut steps: usize = 0;
+    let mut turns: usize = 0;
     while p < ia.len() && q < ib.len() {
-        let t = walks::one_turn(ia, va, p, ib, vb, q);
-        let x = t.x;
-        let y = t.y;
-        let z = mul_cells(x, y);
-        len = walks::put(oi, ov, len, t.place, z);
-        p = t.p;
-        q = t.q;
-        steps += 1;
+        let s = steps::mul_step(ia, va, p, ib, vb, q, oi, ov, len);
+        p = s.p;
+        q = s.q;
+        len = s.n;
+        turns += 1;
     }
     Both {
         len: len,
-        turns: steps,
+        turns: turns,
     }
 }
 
@@ -160,8 +105,8 @@ fn write(
     ensures { λ r. ⌜ Fills (joins op (vector dims (now (ia .entry)) (now (va .entry))) (vector dims (now (ib .entry)) (now (vb .entry)))) (turnsOf op (vector dims (now (ia .entry)) (now (va .entry))) (vector dims (now (ib .entry)) (now (vb .entry)))) (now (oi .entry)) (now (ov .entry)) r (now (oi .exit)) (now (ov .exit)) ⌝ }
 {
     match op {
-        Op::Add => merge(Op::Add, dims, ia, va, ib, vb, oi, ov),
-        Op::Sub => merge(Op::Sub, dims, ia, va, ib, vb, oi, ov),
+        Op::Add => merge(false, dims, ia, va, ib, vb, oi, ov),
+        Op::Sub => merge(true, dims, ia, va, ib, vb, oi, ov),
         Op::Mul => multiply(dims, ia, va, ib, vb, oi, ov),
     }
 }

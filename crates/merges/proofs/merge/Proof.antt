@@ -4,79 +4,105 @@ use Prim.Native.Nat.{_+_, _-_}
 use native.Mathlib.Omega.{arith}
 use mathlib.Core.Path.{refl}
 use lib.ListN.{length}
-use borrow.Author.Needs.{needs}
+use borrow.Author.Tests.{ltb-true}
 use Rattle.sparse.specs.Vectors.{vector}
 use Rattle.sparse.proofs.Checks.{sizes-most}
-use Rattle.walks.proofs.Walk.{passed, standing}
-use Rattle.merges.proofs.Made.{Merging, merging-start, merging-more, lengths, fits, merging-fills}
+use Rattle.merges.specs.Loops.{opOf}
+use Rattle.merges.proofs.Made.{Merging, merging-start, lengths, merging-fills}
+use Rattle.merges.proofs.Turning.{merging-running, merging-chain}
 use Rattle.merges.proofs.merge.Statement.{statement}
 use Rattle.merges.proofs.merge.Tie as tie
 
 abbrev Inv-loop : tie.InvT-loop
-Inv-loop op dims ia va ib vb oi₀ ov₀ p₀ q₀ n₀ turns₀ oi ov p q n turns =
-    Merging op 0 (vector dims ia va) (vector dims ib vb) oi₀ ov₀ oi ov p q n turns
+Inv-loop negate dims ia va ib vb oi₀ ov₀ p₀ q₀ n₀ turns₀ quick₀ oi ov p q n turns quick =
+    Merging (opOf negate) 0 (vector dims ia va) (vector dims ib vb) oi₀ ov₀ oi ov p q n turns
 
 abbrev μ-loop : tie.MeasureT-loop
-μ-loop op dims ia va ib vb oi₀ ov₀ p₀ q₀ n₀ turns₀ oi ov p q n turns = length ia + length ib - (p + q)
+μ-loop negate dims ia va ib vb oi₀ ov₀ p₀ q₀ n₀ turns₀ quick₀ oi ov p q n turns quick = length ia + length ib - (p + q)
 
--- before the loop, and the turn of a walk whose entry is stored
+-- before the loop; in it, after a run; and after the last turns
 abbrev start : tie.At-loop Inv-loop μ-loop → tie.Start Inv-loop μ-loop
 start c = c .before .before .before .before .before .before .before
 
-abbrev turn : tie.After-slice-known4 Inv-loop μ-loop → tie.After-one-turn Inv-loop μ-loop
-turn c = c .before .before .before .before .before .before .before .before
+abbrev ran : tie.After-any-run Inv-loop μ-loop → tie.At-loop Inv-loop μ-loop
+ran c = c .before .before .before .before .before
+
+abbrev ended : tie.After-struct-known3 Inv-loop μ-loop → tie.At-loop Inv-loop μ-loop
+ended c = c .before .before .before .before .before .before .before .before .before
 
 loop-holds : tie.Need-loop-holds Inv-loop μ-loop
 loop-holds c = merging-start
 
-add-loop : tie.Need-add-loop Inv-loop μ-loop
-add-loop c = let h = passed (c .loop .inv .going) in search needs
+any-run-requires : tie.Need-any-run-requires Inv-loop μ-loop
+any-run-requires c κs =
+    let l = c .before .before .before .before in
+    let t = start l in
+    merging-running (t .args .negate) (t .pre) refl (l .loop .inv) (omega arith)
+    (omega (arith, ltb-true (l .loop .q) (length (t .args .ib .now)) (c .before .before .if1 .taken)))
 
-add-loop-2 : tie.Need-add-loop-2 Inv-loop μ-loop
-add-loop-2 c = search needs
+add-quick : tie.Need-add-quick Inv-loop μ-loop
+add-quick c =
+    let g = c .before .before .before .before .before .any-run .ensures in
+    let r = start (ran (c .before .before .before .before .before)) .pre in
+    omega (arith, g .1, g .0 .within, g .0 .within′, sizes-most (r .left) (r .right))
 
-one-turn-requires : tie.Need-one-turn-requires Inv-loop μ-loop
-one-turn-requires c κs =
-    let r = start (c .before) .pre in
-    standing (r .left) (r .right) (c .before .loop .inv .going) (omega arith)
+add-quick-2 : tie.Need-add-quick-2 Inv-loop μ-loop
+add-quick-2 c =
+    let g = c .before .before .before .before .before .any-run .ensures in
+    let r = start (ran (c .before .before .before .before .before)) .pre in
+    omega (arith, g .1, g .0 .within, g .0 .within′, sizes-most (r .left) (r .right))
 
-join-cells-requires : tie.Need-join-cells-requires Inv-loop μ-loop
-join-cells-requires c κs = search needs
-
-put-requires : tie.Need-put-requires Inv-loop μ-loop
-put-requires c κs =
-    let l = c .before .before .before .before .before in
-    let e = lengths (start l .pre) (l .loop .inv) in
-    let room = fits (start l .pre) (l .loop .inv) (omega arith) in
-    (omega (arith, room .0, e .0), omega (arith, room .1, e .1))
+add-quick-3 : tie.Need-add-quick-3 Inv-loop μ-loop
+add-quick-3 c =
+    let g = c .before .before .before .before .before .any-run .ensures in
+    let r = start (ran (c .before .before .before .before .before)) .pre in
+    omega (arith, g .1, g .0 .within, g .0 .within′, sizes-most (r .left) (r .right))
 
 add-turns : tie.Need-add-turns Inv-loop μ-loop
 add-turns c =
-    let l = turn c .before .before in
+    let g = c .before .before .before .before .before .before .any-run .ensures in
+    let l = ran (c .before .before .before .before .before .before) in
     let r = start l .pre in
-    omega (arith, l .loop .inv .steps, sizes-most (r .left) (r .right))
+    omega (arith, l .loop .inv .steps, g .0 .passed, g .0 .within, g .0 .within′, sizes-most (r .left) (r .right))
 
 loop-less : tie.Need-loop-less Inv-loop μ-loop
-loop-less c = let t = turn c in omega (arith, passed (t .before .before .loop .inv .going), t .one-turn .ensures .some)
+loop-less c = let g = c .before .before .before .before .before .before .any-run .ensures in omega (arith, g .1, g .0 .within, g .0 .within′)
 
 loop-again : tie.Need-loop-again Inv-loop μ-loop
 loop-again c =
-    let s = c .before .before .before .before in
-    let t = turn c in
-    let l = t .before .before in
+    let l = ran (c .before .before .before .before .before .before) in
+    merging-chain (start l .args .negate) (start l .pre) refl (l .loop .inv) (c .before .before .before .before .before .before .any-run .ensures .0 .chain)
+
+finish-requires : tie.Need-finish-requires Inv-loop μ-loop
+finish-requires c κs =
+    let l = c .before .before .before in
+    let t = start l in
+    let w = l .loop .inv .going .walk in
+    merging-running (t .args .negate) (t .pre) refl (l .loop .inv) (omega (arith, w .left .within)) (omega (arith, w .right .within))
+
+add-t30 : tie.Need-add-t30 Inv-loop μ-loop
+add-t30 c =
+    let g = c .before .before .before .before .before .finish .ensures .0 in
+    let l = ended c in
     let r = start l .pre in
-    let room = fits r (l .loop .inv) (omega arith) in
-    merging-more (r .left) (r .right) (l .loop .inv) refl (t .one-turn .ensures) (room .0) (room .1) (s .before .before .before .join-cells .ensures)
-    (s .put .ensures)
+    omega (arith, l .loop .inv .steps, g .passed, g .within, g .within′, sizes-most (r .left) (r .right))
 
 same-length : tie.Need-same-length Inv-loop μ-loop
-same-length c = lengths (start (c .before) .pre) (c .before .loop .inv) .0
+same-length c =
+    let l = ended c in
+    lengths (start l .pre) (merging-chain (start l .args .negate) (start l .pre) refl (l .loop .inv) (c .before .before .before .before .before .finish .ensures .0 .chain)) .0
 
 same-length-2 : tie.Need-same-length-2 Inv-loop μ-loop
-same-length-2 c = lengths (start (c .before) .pre) (c .before .loop .inv) .1
+same-length-2 c =
+    let l = ended c in
+    lengths (start l .pre) (merging-chain (start l .args .negate) (start l .pre) refl (l .loop .inv) (c .before .before .before .before .before .finish .ensures .0 .chain)) .1
 
 returns : tie.Need-returns Inv-loop μ-loop
-returns c = merging-fills (start (c .before) .pre) (c .before .loop .inv) (omega arith)
+returns c =
+    let l = ended c in
+    merging-fills (start l .pre)
+    (merging-chain (start l .args .negate) (start l .pre) refl (l .loop .inv) (c .before .before .before .before .before .finish .ensures .0 .chain))
+    (c .before .before .before .before .before .finish .ensures .1)
 
 pub merge-spec : {M : Type 1} → statement M
 merge-spec =
@@ -85,14 +111,15 @@ merge-spec =
     Inv-loop
     μ-loop
     loop-holds
-    add-loop
-    add-loop-2
-    one-turn-requires
-    join-cells-requires
-    put-requires
+    any-run-requires
+    add-quick
+    add-quick-2
+    add-quick-3
     add-turns
     loop-less
     loop-again
+    finish-requires
+    add-t30
     same-length
     same-length-2
     returns)

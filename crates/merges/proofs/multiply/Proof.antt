@@ -4,71 +4,66 @@
 use Prim.Native.Nat.{_+_, _-_, _<_}
 use native.Mathlib.Omega.{arith}
 use mathlib.Core.Logic.{inl, inr}
+use mathlib.Core.Path.{refl}
 use lib.ListN.{length}
-use borrow.Author.Needs.{needs}
 use borrow.Author.Tests.{ltb-true, ltb-false}
 use Rattle.sparse.specs.Vectors.{vector}
 use Rattle.sparse.proofs.Checks.{sizes-most}
 use Rattle.walks.proofs.Walk.{passed, standing}
+use Rattle.steps.proofs.Turning.{passes}
 use Rattle.merges.proofs.Common.{Multiplying, multiplying-start, lengths, multiplying-more, multiplying-end}
 use Rattle.merges.proofs.multiply.Statement.{statement}
 use Rattle.merges.proofs.multiply.Tie as tie
 
 abbrev Inv-loop : tie.InvT-loop
-Inv-loop dims ia va ib vb oi₀ ov₀ p₀ q₀ len₀ steps₀ oi ov p q len steps =
-    Multiplying (vector dims ia va) (vector dims ib vb) oi₀ ov₀ oi ov p q len steps
+Inv-loop dims ia va ib vb oi₀ ov₀ p₀ q₀ len₀ turns₀ oi ov p q len turns =
+    Multiplying (vector dims ia va) (vector dims ib vb) oi₀ ov₀ oi ov p q len turns
 
 abbrev μ-loop : tie.MeasureT-loop
-μ-loop dims ia va ib vb oi₀ ov₀ p₀ q₀ len₀ steps₀ oi ov p q len steps = length ia + length ib - (p + q)
+μ-loop dims ia va ib vb oi₀ ov₀ p₀ q₀ len₀ turns₀ oi ov p q len turns = length ia + length ib - (p + q)
 
--- before the loop, and the turn of a walk whose entry is stored
+-- before the loop
 abbrev start : tie.At-loop Inv-loop μ-loop → tie.Start Inv-loop μ-loop
 start c = c .before .before .before .before .before .before .before
 
-abbrev turn : tie.After-slice-known4 Inv-loop μ-loop → tie.After-one-turn Inv-loop μ-loop
-turn c = c .before .before .before .before .before .before .before .before
-
--- the right vector has an entry left
-more : (c : tie.Then1 Inv-loop μ-loop) → let l = c .before .before in l .loop .q < length (start l .args .ib .now)
-more c = let l = c .before .before in ltb-true (l .loop .q) (length (start l .args .ib .now)) (c .if1 .taken)
+-- both vectors have an entry left
+more : (c : tie.Then1 Inv-loop μ-loop)
+    → let l = c .before .before in (l .loop .p < length (start l .args .ia .now)) × (l .loop .q < length (start l .args .ib .now))
+more c = let l = c .before .before in (omega arith, ltb-true (l .loop .q) (length (start l .args .ib .now)) (c .if1 .taken))
 
 loop-holds : tie.Need-loop-holds Inv-loop μ-loop
 loop-holds c = multiplying-start
 
-one-turn-requires : tie.Need-one-turn-requires Inv-loop μ-loop
-one-turn-requires c κs =
-    let l = c .before .before in
-    let r = start l .pre in
-    standing (r .left) (r .right) (l .loop .inv .going) (omega (arith, more c))
-
-mul-cells-requires : tie.Need-mul-cells-requires Inv-loop μ-loop
-mul-cells-requires c κs = search needs
-
-put-requires : tie.Need-put-requires Inv-loop μ-loop
-put-requires c κs =
-    let t = c .before .before .before .before in
+mul-step-requires : tie.Need-mul-step-requires Inv-loop μ-loop
+mul-step-requires c κs =
+    let t = c .before .before in
     let l = t .before .before in
     let r = start l .pre in
     let m = l .loop .inv in
     let e = lengths r m in
-    (omega (arith, m .few, m .few′, r .room, e .0, more t), omega (arith, m .few, m .few′, r .room′, e .1, more t))
+    let h = more t in
+    (record {
+      standing = standing (r .left) (r .right) (m .going) (omega (arith, h .0, h .1));
+      room = omega (arith, m .few, m .few′, r .room, e .0, h .0, h .1);
+      room′ = omega (arith, m .few, m .few′, r .room′, e .1, h .0, h .1);
+    }, h)
 
-add-steps : tie.Need-add-steps Inv-loop μ-loop
-add-steps c =
-    let l = turn c .before .before .before in
+add-turns : tie.Need-add-turns Inv-loop μ-loop
+add-turns c =
+    let l = c .before .before .before .before .before .before .before .before .before in
     let r = start l .pre in
     omega (arith, l .loop .inv .steps, passed (l .loop .inv .going), sizes-most (r .left) (r .right))
 
 loop-less : tie.Need-loop-less Inv-loop μ-loop
-loop-less c = let t = turn c in omega (arith, passed (t .before .before .before .loop .inv .going), t .one-turn .ensures .some)
+loop-less c = omega (arith, passed (c .before .before .before .before .before .before .before .before .before .loop .inv .going), passes (c .before .before .before .before .mul-step .ensures))
 
 loop-again : tie.Need-loop-again Inv-loop μ-loop
 loop-again c =
-    let s = c .before .before .before .before in
-    let t = turn c in
-    let l = t .before .before .before in
-    multiplying-more (start l .pre) (l .loop .inv) (omega arith) (more (t .before)) (t .one-turn .ensures)
-    (s .before .before .before .mul-cells .ensures) (s .put .ensures)
+    let t = c .before .before .before .before .before .before .before in
+    let l = t .before .before in
+    let h = more t in
+    let s = c .before .before .before .before .mul-step .ensures in
+    rw (s .left, s .right) (multiplying-more (start l .pre) (l .loop .inv) (h .0) (h .1) (s .turned) refl (s .put))
 
 same-length : tie.Need-same-length Inv-loop μ-loop
 same-length c = lengths (start (c .before .before) .pre) (c .before .before .loop .inv) .0
@@ -97,10 +92,8 @@ multiply-spec =
     Inv-loop
     μ-loop
     loop-holds
-    one-turn-requires
-    mul-cells-requires
-    put-requires
-    add-steps
+    mul-step-requires
+    add-turns
     loop-less
     loop-again
     same-length

@@ -1,7 +1,7 @@
--- `merges::sub_cells` meets its contract, case by case. Assumes nothing.
+-- `steps::sub_cells` meets its contract, case by case. Assumes nothing.
 use borrow.Author.Needs.{needs}
-use Rattle.merges.proofs.sub_cells.Statement.{statement}
-use Rattle.merges.proofs.sub_cells.Tie as tie
+use Rattle.steps.proofs.sub_cells.Statement.{statement}
+use Rattle.steps.proofs.sub_cells.Tie as tie
 
 enum-known-x : tie.Need-enum-known-x
 enum-known-x c = search needs

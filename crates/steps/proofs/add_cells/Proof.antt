@@ -1,7 +1,7 @@
--- `merges::add_cells` meets its contract, case by case. Assumes nothing.
+-- `steps::add_cells` meets its contract, case by case. Assumes nothing.
 use borrow.Author.Needs.{needs}
-use Rattle.merges.proofs.add_cells.Statement.{statement}
-use Rattle.merges.proofs.add_cells.Tie as tie
+use Rattle.steps.proofs.add_cells.Statement.{statement}
+use Rattle.steps.proofs.add_cells.Tie as tie
 
 enum-known-x : tie.Need-enum-known-x
 enum-known-x c = search needs
@@ -18,6 +18,12 @@ enum-told c = search needs
 enum-told-2 : tie.Need-enum-told-2
 enum-told-2 c = search needs
 
+enum-known-y-2 : tie.Need-enum-known-y-2
+enum-known-y-2 c = search needs
+
+enum-told-3 : tie.Need-enum-told-3
+enum-told-3 c = search needs
+
 returns : tie.Need-returns
 returns c = rw (c .before .before .before .before .before .x .given .1, c .before .before .y .given .1) (c .kept .ensures)
 
@@ -25,7 +31,10 @@ returns-2 : tie.Need-returns-2
 returns-2 c = rw (c .before .before .before .x .given .1, c .enum-told .given .1)
 
 returns-3 : tie.Need-returns-3
-returns-3 c = search needs
+returns-3 c = rw (c .before .before .before .enum-told2 .given .1, c .before .y2 .given .1)
+
+returns-4 : tie.Need-returns-4
+returns-4 c = search needs
 
 pub add-cells-spec : {M : Type 1} → statement M
 add-cells-spec =
@@ -36,6 +45,9 @@ add-cells-spec =
     kept-requires
     enum-told
     enum-told-2
+    enum-known-y-2
+    enum-told-3
     returns
     returns-2
-    returns-3)
+    returns-3
+    returns-4)

@@ -1,0 +1,69 @@
+-- `runs::any_run` meets its contract: a turn, and the turns of a run. Assumes nothing.
+use native.Mathlib.Omega.{arith}
+use borrow.Author.Needs.{needs}
+use Rattle.steps.proofs.Turning.{left-within, right-within, passes}
+use Rattle.runs.proofs.Loops.{running-then, ran-then}
+use Rattle.runs.proofs.any_run.Statement.{statement}
+use Rattle.runs.proofs.any_run.Tie as tie
+
+abbrev start : tie.After-met-step → tie.Start
+start c = c .before .before .before .before .before .before .before .before .before
+
+met-step-requires : tie.Need-met-step-requires
+met-step-requires c κs = search needs
+
+sub-smaller : tie.Need-sub-smaller
+sub-smaller c = let t = c .before .before .before .before .before in left-within (t .met-step .ensures) (omega (arith, start t .pre .left)) .0
+
+sub-smaller-2 : tie.Need-sub-smaller-2
+sub-smaller-2 c = let t = c .before .before .before .before .before .before in right-within (t .met-step .ensures) (omega (arith, start t .pre .right)) .0
+
+smaller-requires : tie.Need-smaller-requires
+smaller-requires c κs = search needs
+
+smaller-requires-2 : tie.Need-smaller-requires-2
+smaller-requires-2 c κs = search needs
+
+either-run-requires : tie.Need-either-run-requires
+either-run-requires c κs =
+    let t = c .before .before .before .before .before .before .before .before .before .before in
+    let r = start t .pre in
+    let s = t .met-step .ensures in
+    let a = left-within s (omega (arith, r .left)) .0 in
+    let b = right-within s (omega (arith, r .right)) .0 in
+    let k = c .before .before .smaller2 .ensures in
+    let l = c .before .before .before .smaller .ensures in
+    running-then r s (omega (arith, a, b, k, l)) (omega (arith, a, b, k, l))
+
+add-t20 : tie.Need-add-t20
+add-t20 c =
+    let r = start (c .before .before .before .before .before .before .before .before .before .before .before .before .before .before .before .before) .pre in
+    let g = c .before .before .before .before .before .either-run .ensures in
+    omega (arith, g .passed, g .within, g .within′, r .most, r .most′)
+
+same-length : tie.Need-same-length
+same-length c = search needs
+
+same-length-2 : tie.Need-same-length-2
+same-length-2 c = search needs
+
+returns : tie.Need-returns
+returns c =
+    let t = c .before .before .before .before .before .before .before .before .before .before .before .before .before .before .before .before in
+    let g = c .before .before .before .before .before .either-run .ensures in
+    (ran-then (start t .pre) (t .met-step .ensures) g, omega (arith, g .passed, passes (t .met-step .ensures)))
+
+pub any-run-spec : {M : Type 1} → statement M
+any-run-spec =
+    tie.close
+    (tie.spec
+    met-step-requires
+    sub-smaller
+    sub-smaller-2
+    smaller-requires
+    smaller-requires-2
+    either-run-requires
+    add-t20
+    same-length
+    same-length-2
+    returns)

@@ -1,0 +1,188 @@
+// Runs of turns of a sum or a difference of two sparse vectors, written to a lent pair of lists. A loop of
+// its own for each way to take a turn, without an end of a side tested inside, is fast. For the crates
+// above, not for users.
+
+ghost use Prim.Native.Nat.{_+_, _≤_, _<_};
+ghost use lib.ListN.{length};
+ghost use Rattle.steps.specs.Turns.{sumOf};
+ghost use Rattle.runs.specs.Runs.{Running, Ran};
+
+// Where a run came to: the next entries of both sides, the next to write, and the turns taken.
+pub struct Block {
+    pub p: usize,
+    pub q: usize,
+    pub n: usize,
+    pub turns: usize,
+}
+
+// Up to k turns without a branch on which side is next, where both have as many entries left. It stops where two values
+// come to zero together, which is rare.
+fn quick_run(
+    negate: bool,
+    k: usize,
+    ia: &[u32],
+    va: &[f32],
+    p: usize,
+    ib: &[u32],
+    vb: &[f32],
+    q: usize,
+    oi: &mut [u32],
+    ov: &mut [f32],
+    n: usize,
+) -> Block
+    requires { ⌜ Running k (now ia) (now va) p (now ib) (now vb) q n (now oi) (now ov) ⌝ }
+    ensures { λ r. ⌜ Ran (sumOf negate) (now (ia .entry)) (now (va .entry)) p (now (ib .entry)) (now (vb .entry)) q n (now (oi .entry)) (now (ov .entry)) r (now (oi .exit)) (now (ov .exit)) ⌝ }
+{
+    let mut u = p;
+    let mut v = q;
+    let mut m = n;
+    let mut taken: usize = 0;
+    while taken < k {
+        let sum = steps::met(negate, va[u], vb[v]);
+        if sum == 0.0 {
+            return Block {
+                p: u,
+                q: v,
+                n: m,
+                turns: taken,
+            };
+        }
+        let s = steps::store_step(negate, ia, va, u, ib, vb, v, oi, ov, m);
+        u = s.p;
+        v = s.q;
+        m = s.n;
+        taken += 1;
+    }
+    Block {
+        p: u,
+        q: v,
+        n: m,
+        turns: taken,
+    }
+}
+
+// So many turns, for sides that have most places in common.
+fn met_run(
+    negate: bool,
+    k: usize,
+    ia: &[u32],
+    va: &[f32],
+    p: usize,
+    ib: &[u32],
+    vb: &[f32],
+    q: usize,
+    oi: &mut [u32],
+    ov: &mut [f32],
+    n: usize,
+) -> Block
+    requires { ⌜ Running k (now ia) (now va) p (now ib) (now vb) q n (now oi) (now ov) ⌝ }
+    ensures { λ r. ⌜ Ran (sumOf negate) (now (ia .entry)) (now (va .entry)) p (now (ib .entry)) (now (vb .entry)) q n (now (oi .entry)) (now (ov .entry)) r (now (oi .exit)) (now (ov .exit)) ⌝ }
+{
+    let mut u = p;
+    let mut v = q;
+    let mut m = n;
+    let mut taken: usize = 0;
+    while taken < k {
+        let s = steps::met_step(negate, ia, va, u, ib, vb, v, oi, ov, m);
+        u = s.p;
+        v = s.q;
+        m = s.n;
+        taken += 1;
+    }
+    Block {
+        p: u,
+        q: v,
+        n: m,
+        turns: taken,
+    }
+}
+
+// A run of one kind or the other.
+fn either_run(
+    negate: bool,
+    quick: bool,
+    k: usize,
+    ia: &[u32],
+    va: &[f32],
+    p: usize,
+    ib: &[u32],
+    vb: &[f32],
+    q: usize,
+    oi: &mut [u32],
+    ov: &mut [f32],
+    n: usize,
+) -> Block
+    requires { ⌜ Running k (now ia) (now va) p (now ib) (now vb) q n (now oi) (now ov) ⌝ }
+    ensures { λ r. ⌜ Ran (sumOf negate) (now (ia .entry)) (now (va .entry)) p (now (ib .entry)) (now (vb .entry)) q n (now (oi .entry)) (now (ov .entry)) r (now (oi .exit)) (now (ov .exit)) ⌝ }
+{
+    if quick {
+        return quick_run(negate, k, ia, va, p, ib, vb, q, oi, ov, n);
+    }
+    met_run(negate, k, ia, va, p, ib, vb, q, oi, ov, n)
+}
+
+// A turn, and a run of up to 63 more.
+pub fn any_run(
+    negate: bool,
+    quick: bool,
+    ia: &[u32],
+    va: &[f32],
+    p: usize,
+    ib: &[u32],
+    vb: &[f32],
+    q: usize,
+    oi: &mut [u32],
+    ov: &mut [f32],
+    n: usize,
+) -> Block
+    requires { ⌜ Running 1 (now ia) (now va) p (now ib) (now vb) q n (now oi) (now ov) ⌝ }
+    ensures { λ r. ⌜ Ran (sumOf negate) (now (ia .entry)) (now (va .entry)) p (now (ib .entry)) (now (vb .entry)) q n (now (oi .entry)) (now (ov .entry)) r (now (oi .exit)) (now (ov .exit)) ⌝ }
+    ensures { λ r. ⌜ p + q < r .p + r .q ⌝ }
+{
+    let s = steps::met_step(negate, ia, va, p, ib, vb, q, oi, ov, n);
+    let left = walks::smaller(ia.len() - s.p, ib.len() - s.q);
+    let k = walks::smaller(63, left);
+    let r = either_run(negate, quick, k, ia, va, s.p, ib, vb, s.q, oi, ov, s.n);
+    Block {
+        p: r.p,
+        q: r.q,
+        n: r.n,
+        turns: r.turns + 1,
+    }
+}
+
+// The turns to the end of both sides, of which one may have ended.
+pub fn finish(
+    negate: bool,
+    ia: &[u32],
+    va: &[f32],
+    p: usize,
+    ib: &[u32],
+    vb: &[f32],
+    q: usize,
+    oi: &mut [u32],
+    ov: &mut [f32],
+    n: usize,
+) -> Block
+    requires { ⌜ Running 0 (now ia) (now va) p (now ib) (now vb) q n (now oi) (now ov) ⌝ }
+    ensures { λ r. ⌜ Ran (sumOf negate) (now (ia .entry)) (now (va .entry)) p (now (ib .entry)) (now (vb .entry)) q n (now (oi .entry)) (now (ov .entry)) r (now (oi .exit)) (now (ov .exit)) ⌝ }
+    ensures { λ r. ⌜ length (now (ia .entry)) + length (now (ib .entry)) ≤ r .p + r .q ⌝ }
+{
+    let mut u = p;
+    let mut v = q;
+    let mut m = n;
+    let mut taken: usize = 0;
+    while u + v < ia.len() + ib.len() {
+        let s = steps::plain_step(negate, ia, va, u, ib, vb, v, oi, ov, m);
+        u = s.p;
+        v = s.q;
+        m = s.n;
+        taken += 1;
+    }
+    Block {
+        p: u,
+        q: v,
+        n: m,
+        turns: taken,
+    }
+}

@@ -1,0 +1,2 @@
+-- Laws of a turn, and of many.
+pub mod Turning
