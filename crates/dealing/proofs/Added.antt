@@ -19,7 +19,8 @@ use Rattle.sparse.specs.Sound.{Sound}
 use Rattle.sparse.proofs.Checks.{sound}
 use Rattle.sparse.proofs.Entries.{entries-same}
 use Rattle.sparse.proofs.Slices.{rebuilt}
-use Rattle.merges.specs.Algebra.{added, joins}
+use Rattle.steps.specs.Places.{added}
+use Rattle.merges.specs.Algebra.{joins}
 use Rattle.merges.specs.declared.Op.the-variants.{Add}
 use Rattle.merges.proofs.Meaning.{joins-at, joins-valid}
 use Rattle.headers.specs.Headers.{passes}

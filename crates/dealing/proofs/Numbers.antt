@@ -24,7 +24,7 @@ use Rattle.sparse.specs.declared.Cell.{Cell}
 use Rattle.sparse.specs.declared.Cell.the-variants.{Empty, Full}
 use Rattle.sparse.proofs.Numbers.{passing-at}
 use Rattle.sparse.proofs.Meaning.{at-nonzero}
-use Rattle.merges.specs.Algebra.{added}
+use Rattle.steps.specs.Places.{added}
 use Rattle.dealing.specs.Totals.{totalAt, weightAt, entry, total}
 
 -- ---- entries

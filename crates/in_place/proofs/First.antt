@@ -22,7 +22,7 @@ use Rattle.sparse.proofs.Look.{look-gap, split-start, split-on}
 use Rattle.sparse.proofs.Slices.{front, rebuilt}
 use Rattle.walks.proofs.Stores.{Written}
 use Rattle.walks.proofs.Walk.{kept-up}
-use Rattle.merges.specs.Algebra.{added}
+use Rattle.steps.specs.Places.{added}
 use Rattle.merges.specs.declared.Op.the-variants.{Add}
 use Rattle.merges.proofs.Made.{joinAt}
 use Rattle.in_place.specs.Turns.{firstIndex, rowTurns}

@@ -12,7 +12,7 @@ use Rattle.sparse.specs.Vectors.{Vector, size}
 use Rattle.sparse.specs.Sound.{Split, Sound}
 use Rattle.walks.specs.Walk.{Standing, Turned, Put}
 use Rattle.walks.specs.declared.Turn.{Turn}
-use Rattle.merges.specs.Algebra.{added}
+use Rattle.steps.specs.Places.{added}
 use Rattle.merges.specs.declared.Both.{Both}
 use Rattle.regions.specs.Regions.{part, Stands}
 use Rattle.in_place.specs.Turns.{firstIndex}

@@ -10,7 +10,7 @@ use Rattle.sparse.specs.declared.Cell.{Cell}
 use Rattle.sparse.proofs.Checks.{size-most}
 use Rattle.steps.specs.Turns.{sumOf, Stepped, Chain, none, more}
 use Rattle.steps.specs.declared.Step.{Step}
-use Rattle.runs.specs.Runs.{Running}
+use Rattle.merge_runs.specs.Runs.{Running}
 use Rattle.merges.specs.Algebra.{joined}
 use Rattle.merges.specs.Loops.{Ready, opOf}
 use Rattle.merges.proofs.Made.{Merging, merging-more, lengths, fits}

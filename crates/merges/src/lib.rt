@@ -46,14 +46,14 @@ fn merge(
     let mut turns: usize = 0;
     let mut quick = true;
     while p < ia.len() && q < ib.len() {
-        let r = runs::any_run(negate, quick, ia, va, p, ib, vb, q, oi, ov, n);
+        let r = merge_runs::any_run(negate, quick, ia, va, p, ib, vb, q, oi, ov, n);
         quick = r.p + r.q < p + q + 104;
         p = r.p;
         q = r.q;
         n = r.n;
         turns += r.turns;
     }
-    let r = runs::finish(negate, ia, va, p, ib, vb, q, oi, ov, n);
+    let r = merge_runs::finish(negate, ia, va, p, ib, vb, q, oi, ov, n);
     Both {
         len: r.n,
         turns: turns + r.turns,

@@ -5,7 +5,7 @@
 ghost use Prim.Native.Nat.{_+_, _≤_, _<_};
 ghost use lib.ListN.{length};
 ghost use Rattle.steps.specs.Turns.{sumOf};
-ghost use Rattle.runs.specs.Runs.{Running, Ran};
+ghost use Rattle.merge_runs.specs.Runs.{Running, Ran};
 
 // Where a run came to: the next entries of both sides, the next to write, and the turns taken.
 pub struct Block {

@@ -11,8 +11,8 @@ use Rattle.walks.proofs.Stores.{put-most}
 use Rattle.steps.specs.Turns.{Steady, Stepped, step, Chain, none, more}
 use Rattle.steps.specs.declared.Step.{Step}
 use Rattle.steps.proofs.Turning.{index-length, value-length, left-within, right-within, passes}
-use Rattle.runs.specs.Runs.{Running, Ran}
-use Rattle.runs.specs.declared.Block.{Block}
+use Rattle.merge_runs.specs.Runs.{Running, Ran}
+use Rattle.merge_runs.specs.declared.Block.{Block}
 
 -- `taken` turns lead from where it began to where it is
 pub record Runs (join : Cell → Cell → Cell) (is : List ℕ) (vs : List Float) (p : ℕ) (js : List ℕ) (ws : List Float) (q n : ℕ)

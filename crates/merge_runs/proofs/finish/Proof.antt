@@ -1,13 +1,13 @@
--- `runs::finish` meets its contract. The measure is the number of entries left in both. Assumes nothing.
+-- `merge_runs::finish` meets its contract. The measure is the number of entries left in both. Assumes nothing.
 use Prim.Native.Nat.{_+_, _-_}
 use native.Mathlib.Omega.{arith}
 use lib.ListN.{length}
 use borrow.Author.Needs.{needs}
 use Rattle.steps.specs.Turns.{sumOf}
 use Rattle.steps.proofs.Turning.{passes}
-use Rattle.runs.proofs.Loops.{Runs, runs-start, runs-steady, runs-more, ran}
-use Rattle.runs.proofs.finish.Statement.{statement}
-use Rattle.runs.proofs.finish.Tie as tie
+use Rattle.merge_runs.proofs.Loops.{Runs, runs-start, runs-steady, runs-more, ran}
+use Rattle.merge_runs.proofs.finish.Statement.{statement}
+use Rattle.merge_runs.proofs.finish.Tie as tie
 
 abbrev Inv-loop : tie.InvT-loop
 Inv-loop negate ia va p ib vb q oi₀ ov₀ n u₀ v₀ m₀ taken₀ oi ov u v m taken = Runs (sumOf negate) ia va p ib vb q n oi₀ ov₀ oi ov u v m taken

@@ -6,7 +6,7 @@ use lib.ListN.{length}
 use lib.Ieee.{Float}
 use Rattle.sparse.specs.declared.Cell.{Cell}
 use Rattle.steps.specs.Turns.{step, Chain}
-use Rattle.runs.specs.declared.Block.{Block}
+use Rattle.merge_runs.specs.declared.Block.{Block}
 
 -- a walk has come to the entries p and q, and both sides have k left; it has written no more than it has passed, and has room for all
 pub record Running (k : ℕ) (is : List ℕ) (vs : List Float) (p : ℕ) (js : List ℕ) (ws : List Float) (q n : ℕ) (oi : List ℕ) (ov : List Float)

@@ -1,10 +1,10 @@
--- `runs::any_run` meets its contract: a turn, and the turns of a run. Assumes nothing.
+-- `merge_runs::any_run` meets its contract: a turn, and the turns of a run. Assumes nothing.
 use native.Mathlib.Omega.{arith}
 use borrow.Author.Needs.{needs}
 use Rattle.steps.proofs.Turning.{left-within, right-within, passes}
-use Rattle.runs.proofs.Loops.{running-then, ran-then}
-use Rattle.runs.proofs.any_run.Statement.{statement}
-use Rattle.runs.proofs.any_run.Tie as tie
+use Rattle.merge_runs.proofs.Loops.{running-then, ran-then}
+use Rattle.merge_runs.proofs.any_run.Statement.{statement}
+use Rattle.merge_runs.proofs.any_run.Tie as tie
 
 abbrev start : tie.After-met-step → tie.Start
 start c = c .before .before .before .before .before .before .before .before .before

@@ -1,12 +1,12 @@
--- `runs::quick_run` meets its contract: each of its turns stores something. The measure is the number of turns left. Assumes nothing.
+-- `merge_runs::quick_run` meets its contract: each of its turns stores something. The measure is the number of turns left. Assumes nothing.
 use Prim.Native.Nat.{_-_, _<_}
 use native.Mathlib.Omega.{arith}
 use lib.ListN.{length}
 use borrow.Author.Needs.{needs}
 use Rattle.steps.specs.Turns.{sumOf}
-use Rattle.runs.proofs.Loops.{Runs, runs-start, runs-left, runs-steady, runs-more, ran}
-use Rattle.runs.proofs.quick_run.Statement.{statement}
-use Rattle.runs.proofs.quick_run.Tie as tie
+use Rattle.merge_runs.proofs.Loops.{Runs, runs-start, runs-left, runs-steady, runs-more, ran}
+use Rattle.merge_runs.proofs.quick_run.Statement.{statement}
+use Rattle.merge_runs.proofs.quick_run.Tie as tie
 
 abbrev Inv-loop : tie.InvT-loop
 Inv-loop negate k ia va p ib vb q oi₀ ov₀ n u₀ v₀ m₀ taken₀ oi ov u v m taken = Runs (sumOf negate) ia va p ib vb q n oi₀ ov₀ oi ov u v m taken

@@ -1,0 +1,2 @@
+-- The definitions that the contracts of `merge_runs` cite.
+pub mod Runs
