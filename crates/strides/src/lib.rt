@@ -1,0 +1,271 @@
+// The turns of a merge of a row into the entries of a state, which stand at the far end of the room: one turn, and
+// many at once. All promise the same, a chain of turns (crates/strides/specs), so the merge may choose between them.
+// For the crates above, not for users.
+
+ghost use mathlib.Core.Bool.{false};
+ghost use mathlib.Core.Path.{_≡_};
+ghost use Prim.Native.Nat.{_+_, _≤_, _<_};
+ghost use lib.ListN.{length, getD};
+ghost use lib.Ieee.{nan, add, binary32};
+ghost use Rattle.sparse.specs.Cells.{isZero};
+ghost use Rattle.sparse.specs.Sound.{Rising};
+ghost use Rattle.strides.specs.Strides.{Steady, Meeting, Stepped, Clear, Before, copied, Copied, Ample, Strode};
+
+// What turns of a merge came to: the next entries of the state and of the row, and the next to write.
+pub struct Step {
+    pub at: usize,
+    pub q: usize,
+    pub n: usize,
+}
+
+// A turn of a merge of the state's entries from `at` up to `cap` and the row's from q on, written as the entry n.
+fn plain_step(
+    si: &mut [u32],
+    sv: &mut [f32],
+    at: usize,
+    cap: usize,
+    n: usize,
+    ib: &[u32],
+    vb: &[f32],
+    q: usize,
+) -> Step
+    requires { ⌜ Steady (now si) (now sv) at cap n (now ib) (now vb) q ⌝ }
+    ensures { λ r. ⌜ Stepped (now (si .entry)) (now (sv .entry)) at cap n (now (ib .entry)) (now (vb .entry)) q r (now (si .exit)) (now (sv .exit)) ⌝ }
+{
+    let t = walks::one_turn(&si[at..cap], &sv[at..cap], 0, ib, vb, q);
+    let x = t.x;
+    let y = t.y;
+    let z = merges::add_cells(x, y);
+    let next = walks::put(si, sv, n, t.place, z);
+    Step {
+        at: at + t.p,
+        q: t.q,
+        n: next,
+    }
+}
+
+// A turn where both sides have an entry left and their values do not cancel out: one entry is stored, without a branch
+// on which side is next.
+fn store_step(
+    si: &mut [u32],
+    sv: &mut [f32],
+    at: usize,
+    cap: usize,
+    n: usize,
+    ib: &[u32],
+    vb: &[f32],
+    q: usize,
+) -> Step
+    requires { ⌜ Meeting (now si) (now sv) at cap n (now ib) (now vb) q ⌝ }
+    requires { ⌜ isZero (add binary32 (getD (now sv) at nan) (getD (now vb) q nan)) ≡ false ⌝ }
+    ensures { λ r. ⌜ Stepped (now (si .entry)) (now (sv .entry)) at cap n (now (ib .entry)) (now (vb .entry)) q r (now (si .exit)) (now (sv .exit)) ⌝ }
+{
+    let i = si[at];
+    let j = ib[q];
+    let x = sv[at];
+    let y = vb[q];
+    let v = walks::value_at(i, j, x, y, x + y);
+    si[n] = walks::lower(i, j);
+    sv[n] = v;
+    Step {
+        at: at + (i <= j) as usize,
+        q: q + (j <= i) as usize,
+        n: n + 1,
+    }
+}
+
+// A turn. That two values cancel out is rare, and is left to the plain step.
+pub fn any_step(
+    si: &mut [u32],
+    sv: &mut [f32],
+    at: usize,
+    cap: usize,
+    n: usize,
+    ib: &[u32],
+    vb: &[f32],
+    q: usize,
+) -> Step
+    requires { ⌜ Steady (now si) (now sv) at cap n (now ib) (now vb) q ⌝ }
+    ensures { λ r. ⌜ Stepped (now (si .entry)) (now (sv .entry)) at cap n (now (ib .entry)) (now (vb .entry)) q r (now (si .exit)) (now (sv .exit)) ⌝ }
+{
+    if at < cap {
+        if q < ib.len() {
+            let s = sv[at] + vb[q];
+            if !(s == 0.0) {
+                return store_step(si, sv, at, cap, n, ib, vb, q);
+            }
+        }
+    }
+    plain_step(si, sv, at, cap, n, ib, vb, q)
+}
+
+// How many of a state's entries come before the row's next one.
+fn count_before(is: &[u32], ib: &[u32], q: usize) -> usize
+    requires { ⌜ Rising (now is) ⌝ }
+    ensures { λ r. ⌜ Before (now (is .entry)) (now (ib .entry)) q r ⌝ }
+{
+    if q < ib.len() {
+        return walks::near_point(is, ib[q]);
+    }
+    is.len()
+}
+
+// Copies the k indexes from `at` on to those from n on, the first one first.
+fn copy_indexes(si: &mut [u32], at: usize, n: usize, k: usize)
+    requires { ⌜ (n ≤ at) × (at + k ≤ length (now si)) ⌝ }
+    ensures { λ r. ⌜ now (si .exit) ≡ copied 0 (now (si .entry)) at n k ⌝ }
+{
+    let mut i: usize = 0;
+    while i < k {
+        let x = si[at + i];
+        let to = n + i;
+        si[to] = x;
+        i += 1;
+    }
+}
+
+// Copies the values likewise.
+fn copy_values(sv: &mut [f32], at: usize, n: usize, k: usize)
+    requires { ⌜ (n ≤ at) × (at + k ≤ length (now sv)) ⌝ }
+    ensures { λ r. ⌜ now (sv .exit) ≡ copied nan (now (sv .entry)) at n k ⌝ }
+{
+    let mut i: usize = 0;
+    while i < k {
+        let x = sv[at + i];
+        let to = n + i;
+        sv[to] = x;
+        i += 1;
+    }
+}
+
+// Copies the entries before the row's next one, and returns how many they are. Each is looked at as it is copied, which
+// is faster than a search where they are few.
+fn copy_below(si: &mut [u32], sv: &mut [f32], at: usize, cap: usize, n: usize, ib: &[u32], q: usize) -> usize
+    requires { ⌜ Clear (now si) (now sv) at cap n ⌝ }
+    requires { ⌜ q < length (now ib) ⌝ }
+    ensures { λ r. ⌜ Copied (now (si .entry)) (now (sv .entry)) at cap n (now (ib .entry)) q r (now (si .exit)) (now (sv .exit)) ⌝ }
+{
+    let place = ib[q];
+    let mut k: usize = 0;
+    while at + k < cap {
+        let i = si[at + k];
+        if place <= i {
+            return k;
+        }
+        let v = sv[at + k];
+        let to = n + k;
+        si[to] = i;
+        sv[to] = v;
+        k += 1;
+    }
+    k
+}
+
+// Copies the same entries. Where they are many, or the row has ended, they are found first and copied by two plain
+// loops.
+fn copy_before(
+    far: bool,
+    si: &mut [u32],
+    sv: &mut [f32],
+    at: usize,
+    cap: usize,
+    n: usize,
+    ib: &[u32],
+    q: usize,
+) -> usize
+    requires { ⌜ Clear (now si) (now sv) at cap n ⌝ }
+    ensures { λ r. ⌜ Copied (now (si .entry)) (now (sv .entry)) at cap n (now (ib .entry)) q r (now (si .exit)) (now (sv .exit)) ⌝ }
+{
+    if !far {
+        if q < ib.len() {
+            return copy_below(si, sv, at, cap, n, ib, q);
+        }
+    }
+    let k = count_before(&si[at..cap], ib, q);
+    copy_indexes(si, at, n, k);
+    copy_values(sv, at, n, k);
+    k
+}
+
+// What many turns of a merge came to: as a step, and how many they were.
+pub struct Stride {
+    pub at: usize,
+    pub q: usize,
+    pub n: usize,
+    pub turns: usize,
+}
+
+// Up to k turns where both sides have k entries left, so that no end is looked for. It stops where two values cancel
+// out.
+fn run(
+    si: &mut [u32],
+    sv: &mut [f32],
+    at: usize,
+    cap: usize,
+    n: usize,
+    ib: &[u32],
+    vb: &[f32],
+    q: usize,
+    k: usize,
+) -> Stride
+    requires { ⌜ Ample (now si) (now sv) at cap n (now ib) (now vb) q k ⌝ }
+    ensures { λ r. ⌜ Strode (now (si .entry)) (now (sv .entry)) at cap n (now (ib .entry)) (now (vb .entry)) q r (now (si .exit)) (now (sv .exit)) ⌝ }
+{
+    let mut u = at;
+    let mut v = q;
+    let mut m = n;
+    let mut taken: usize = 0;
+    while taken < k {
+        let s = sv[u] + vb[v];
+        if s == 0.0 {
+            return Stride {
+                at: u,
+                q: v,
+                n: m,
+                turns: taken,
+            };
+        }
+        let t = store_step(si, sv, u, cap, m, ib, vb, v);
+        u = t.at;
+        v = t.q;
+        m = t.n;
+        taken += 1;
+    }
+    Stride {
+        at: u,
+        q: v,
+        n: m,
+        turns: taken,
+    }
+}
+
+// Some turns of a merge, or none. Where the state is longer than the row, or the row has ended, all its entries before
+// the row's next one are copied. Else it is up to 63 turns of which none can be foreseen.
+pub fn any_stride(
+    long: bool,
+    far: bool,
+    si: &mut [u32],
+    sv: &mut [f32],
+    at: usize,
+    cap: usize,
+    n: usize,
+    ib: &[u32],
+    vb: &[f32],
+    q: usize,
+) -> Stride
+    requires { ⌜ Clear (now si) (now sv) at cap n ⌝ }
+    requires { ⌜ (q ≤ length (now ib)) × (length (now ib) ≡ length (now vb)) ⌝ }
+    ensures { λ r. ⌜ Strode (now (si .entry)) (now (sv .entry)) at cap n (now (ib .entry)) (now (vb .entry)) q r (now (si .exit)) (now (sv .exit)) ⌝ }
+{
+    if long || q == ib.len() {
+        let k = copy_before(far, si, sv, at, cap, n, ib, q);
+        return Stride {
+            at: at + k,
+            q: q,
+            n: n + k,
+            turns: k,
+        };
+    }
+    let k = walks::smaller(63, walks::smaller(cap - at, ib.len() - q));
+    run(si, sv, at, cap, n, ib, vb, q, k)
+}
