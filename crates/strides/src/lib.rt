@@ -140,7 +140,15 @@ fn copy_values(sv: &mut [f32], at: usize, n: usize, k: usize)
 
 // Copies the entries before the row's next one, and returns how many they are. Each is looked at as it is copied, which
 // is faster than a search where they are few.
-fn copy_below(si: &mut [u32], sv: &mut [f32], at: usize, cap: usize, n: usize, ib: &[u32], q: usize) -> usize
+fn copy_below(
+    si: &mut [u32],
+    sv: &mut [f32],
+    at: usize,
+    cap: usize,
+    n: usize,
+    ib: &[u32],
+    q: usize,
+) -> usize
     requires { ⌜ Clear (now si) (now sv) at cap n ⌝ }
     requires { ⌜ q < length (now ib) ⌝ }
     ensures { λ r. ⌜ Copied (now (si .entry)) (now (sv .entry)) at cap n (now (ib .entry)) q r (now (si .exit)) (now (sv .exit)) ⌝ }
