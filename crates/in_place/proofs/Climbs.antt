@@ -24,7 +24,8 @@ use Rattle.merges.specs.declared.Op.the-variants.{Add}
 use Rattle.merges.proofs.Made.{joinAt, Made, Merging, merging-more, merging-end}
 use Rattle.regions.specs.Regions.{part}
 use Rattle.regions.proofs.Stands.{past-front, stands-front}
-use Rattle.strides.specs.Strides.{Steady, Stepped, step, Chain, Clear}
+use Rattle.copies.specs.Copies.{Clear}
+use Rattle.strides.specs.Strides.{Steady, Stepped, step, Chain}
 use Rattle.strides.specs.declared.Step.{Step}
 use Rattle.strides.proofs.Chains.{chain-keeps}
 use Rattle.in_place.specs.Turns.{firstIndex, rowTurns}

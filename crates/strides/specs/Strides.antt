@@ -1,10 +1,9 @@
 -- What the turns of a merge in place are handed, and what they promise to its loop. A user's promises do not cite these.
-use Prim.Native.Nat.{ℕ, zero, suc, _+_, _-_, _≤_, _<_}
+use Prim.Native.Nat.{ℕ, suc, _+_, _-_, _≤_, _<_}
 use mathlib.Core.List.{List}
 use mathlib.Core.Path.{_≡_}
-use lib.ListN.{length, getD, set}
-use lib.Ieee.{Float, nan}
-use Rattle.sparse.specs.Sound.{Rising}
+use lib.ListN.{length}
+use lib.Ieee.{Float}
 use Rattle.walks.specs.Walk.{Standing, Turned, Put}
 use Rattle.walks.specs.declared.Turn.{Turn}
 use Rattle.merges.specs.Algebra.{added}
@@ -59,14 +58,6 @@ pub data Chain (cap : ℕ) (ib : List ℕ) (vb : List Float) : ℕ → Step → 
 abbrev pub Strode : List ℕ → List Float → ℕ → ℕ → ℕ → List ℕ → List Float → ℕ → Stride → List ℕ → List Float → Type 0
 Strode si sv at cap n ib vb q r si′ sv′ = Chain cap ib vb (r .turns) (step at q n) si sv (step (r .at) (r .q) (r .n)) si′ sv′
 
--- what is written does not reach what is read next, and that rises
-pub record Clear (si : List ℕ) (sv : List Float) (at cap n : ℕ) : Type 0 where
-  pub order : at ≤ cap
-  pub long : cap ≤ length si
-  pub long′ : cap ≤ length sv
-  pub clear : n ≤ at
-  pub rising : Rising (part at (cap - at) si)
-
 -- both sides have k entries left, and there is room for as many
 pub record Ample (si : List ℕ) (sv : List Float) (at cap n : ℕ) (ib : List ℕ) (vb : List Float) (q k : ℕ) : Type 0 where
   pub left : at + k ≤ cap
@@ -75,21 +66,3 @@ pub record Ample (si : List ℕ) (sv : List Float) (at cap n : ℕ) (ib : List �
   pub clear : n ≤ at
   pub long : cap ≤ length si
   pub long′ : cap ≤ length sv
-
--- ---- copies
-
--- the first r of a state's indexes are below the row's next one
-abbrev pub Before : List ℕ → List ℕ → ℕ → ℕ → Type 0
-Before is ib q r = (r ≤ length is) × ((j : ℕ) → j < r → q < length ib → getD is j 0 < getD ib q 0)
-
--- a list whose i entries from `at` on are copied to those from n on, one after the other
-unfoldable pub copied {ℓ} : {A : Type ℓ} → A → List A → ℕ → ℕ → ℕ → List A
-copied d l at n zero = l
-copied d l at n (suc i) = set (copied d l at n i) (n + i) (getD (copied d l at n i) (at + i) d)
-
--- the k entries from `at` on are below the row's next one, and were copied
-pub record Copied (si : List ℕ) (sv : List Float) (at cap n : ℕ) (ib : List ℕ) (q k : ℕ) (si′ : List ℕ) (sv′ : List Float) : Type 0 where
-  pub within : at + k ≤ cap
-  pub low : (j : ℕ) → j < k → q < length ib → getD si (at + j) 0 < getD ib q 0
-  pub indexes : si′ ≡ copied 0 si at n k
-  pub values : sv′ ≡ copied nan sv at n k

@@ -1,7 +1,7 @@
--- `strides::count_before` meets its contract: a search finds the row's next index, and past the row all are before. Assumes nothing.
+-- `copies::count_before` meets its contract: a search finds the row's next index, and past the row all are before. Assumes nothing.
 use borrow.Author.Needs.{needs}
-use Rattle.strides.proofs.count_before.Statement.{statement}
-use Rattle.strides.proofs.count_before.Tie as tie
+use Rattle.copies.proofs.count_before.Statement.{statement}
+use Rattle.copies.proofs.count_before.Tie as tie
 
 mul-near-point : tie.Need-mul-near-point
 mul-near-point c = search needs

@@ -1,8 +1,8 @@
--- `strides::copy_before` meets its contract: either way the entries before the row's next one are copied. Assumes nothing.
-use Rattle.strides.proofs.Copies.{copied-found}
+-- `copies::copy_before` meets its contract: either way the entries before the row's next one are copied. Assumes nothing.
+use Rattle.copies.proofs.Copies.{copied-found}
 use borrow.Author.Needs.{needs}
-use Rattle.strides.proofs.copy_before.Statement.{statement}
-use Rattle.strides.proofs.copy_before.Tie as tie
+use Rattle.copies.proofs.copy_before.Statement.{statement}
+use Rattle.copies.proofs.copy_before.Tie as tie
 
 copy-below-requires : tie.Need-copy-below-requires
 copy-below-requires c κs = search needs

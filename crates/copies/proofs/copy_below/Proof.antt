@@ -1,14 +1,14 @@
--- `strides::copy_below` meets its contract. The loop's invariant: the first k entries are below the row's next one, and are copied. The measure
+-- `copies::copy_below` meets its contract. The loop's invariant: the first k entries are below the row's next one, and are copied. The measure
 -- is how many are left up to cap. Assumes nothing.
 use Prim.Native.Nat.{_+_, _-_}
 use native.Mathlib.Omega.{arith}
-use Rattle.strides.specs.Strides.{Copied}
-use Rattle.strides.proofs.Copies.{copied-start, copied-next, copied-lengths}
+use Rattle.copies.specs.Copies.{Copied}
+use Rattle.copies.proofs.Copies.{copied-start, copied-next, copied-lengths}
 use mathlib.Core.Path.{_≡_}
 use lib.ListN.{length}
 use borrow.Author.Needs.{needs}
-use Rattle.strides.proofs.copy_below.Statement.{statement}
-use Rattle.strides.proofs.copy_below.Tie as tie
+use Rattle.copies.proofs.copy_below.Statement.{statement}
+use Rattle.copies.proofs.copy_below.Tie as tie
 
 abbrev Inv-loop : tie.InvT-loop
 Inv-loop si₀ sv₀ at cap n ib q place k₀ si sv k = Copied si₀ sv₀ at cap n ib q k si sv
