@@ -7,18 +7,16 @@ use mathlib.Core.List.{List, _++_}
 use mathlib.Core.Logic.{⊎-elim}
 use mathlib.Core.Path.{_≡_, refl, sym, ap, _∙_}
 use lib.ListN.{length, getD, take, drop, length-drop}
-use lib.Seq.{take-at, length-take-le}
+use lib.Seq.{take-at, length-take-le, getD-drop}
 use lib.Ieee.{Float}
 use Rattle.places.specs.Below.{countBelow}
 use Rattle.places.proofs.Below.{le-or-lt}
 use Rattle.sparse.specs.Cells.{indexesBelow, valuesBelow}
 use Rattle.sparse.specs.Vectors.{Vector, vector, size, at, inUnion}
 use Rattle.sparse.specs.Sound.{Rising, Split, Sound}
-use Rattle.sparse.specs.declared.Cell.{Cell}
 use Rattle.sparse.proofs.Checks.{size-most}
 use Rattle.sparse.proofs.Entries.{entries-most, as-many}
-use Rattle.walks.specs.Walk.{Taken, Standing, Turned}
-use Rattle.walks.specs.declared.Turn.{Turn}
+use Rattle.walks.specs.Walk.{Standing, Turned}
 use Rattle.walks.proofs.Stores.{written-lengths}
 use Rattle.walks.proofs.Walk.{Going}
 use Rattle.merges.specs.Algebra.{joins}
@@ -26,9 +24,12 @@ use Rattle.merges.specs.declared.Op.the-variants.{Add}
 use Rattle.merges.proofs.Made.{joinAt, Made, Merging, merging-more, merging-end}
 use Rattle.regions.specs.Regions.{part}
 use Rattle.regions.proofs.Stands.{past-front, stands-front}
+use Rattle.copies.specs.Copies.{Clear}
+use Rattle.strides.specs.Strides.{Steady, Stepped, step, Chain}
+use Rattle.strides.specs.declared.Step.{Step}
+use Rattle.strides.proofs.Chains.{chain-keeps}
 use Rattle.in_place.specs.Turns.{firstIndex, rowTurns}
-use Rattle.in_place.specs.Loops.{around, Steady, Stepped, Raised, Grown}
-use Rattle.in_place.specs.declared.Step.{Step}
+use Rattle.in_place.specs.Loops.{around, Raised, Grown}
 use Rattle.in_place.proofs.Rest.{turned-left, around-from}
 use Rattle.in_place.proofs.First.{first-most, first-split, written-before, turns-from}
 
@@ -51,9 +52,6 @@ count-left is p f d up cut below le =
 -- from dims on no entry is left
 ended : (v : Vector) → Sound v → {p k : ℕ} → Split (v .indexes) p k → v .dims ≤ k → size v ≤ p
 ended v s {p} cut h = ⊎-elim (λ l. l) (λ l. absurd (omega (arith, cut .high p (omega arith) l, s .below p l))) (le-or-lt (size v) p)
-
-taken-within : (is : List ℕ) (vs : List Float) (p : ℕ) {k p′ : ℕ} {x : Cell} → Taken is vs p k x p′ → p ≤ length is → p′ ≤ length is
-taken-within is vs p t h = ⊎-elim (λ e. omega (arith, e .0, e .3)) (λ e. omega (arith, e .2)) t
 
 -- the union places below the row's first index
 abbrev pub below : Vector → Vector → ℕ
@@ -150,6 +148,19 @@ module _ {d : ℕ} {b : Vector} {low gap cap : ℕ} {si : List ℕ} {sv : List F
         let w = g .holds .wrote in
         left sv sv′ (valuesBelow (joinAt Add a b) (g .front)) (r .roomy .long′) (w .values) (as-many (joinAt Add a b) (g .front) ∙ w .count)
 
+    -- what a stride is handed
+    pub climbing-clear : Clear si′ sv′ at cap n
+    climbing-clear = record {
+      order = reached;
+      long = omega (arith, lengths .0, r .roomy .long);
+      long′ = omega (arith, lengths .1, r .roomy .long′);
+      clear = clear;
+      rising = rw left-indexes
+          (λ i j h l.
+          let long = length-drop (c .p) (a .indexes) in
+          rw (getD-drop (c .p) (a .indexes) i 0, getD-drop (c .p) (a .indexes) j 0) (sa .rising (c .p + i) (c .p + j) (omega arith) (omega arith)));
+    }
+
     module _ (h : at + q < cap + size b) where
       climbing-standing : Standing (part at (cap - at) si′) (part at (cap - at) sv′) 0 (b .indexes) (b .values) q
       climbing-standing =
@@ -166,17 +177,6 @@ module _ {d : ℕ} {b : Vector} {low gap cap : ℕ} {si : List ℕ} {sv : List F
             most′ = omega (arith, size-most sb, sb .high);
             more = omega (arith, c .stands, r .far);
           })
-
-      -- a turn passes no more than there is
-      turn-within : {t : Turn} → Turned (part at (cap - at) si′) (part at (cap - at) sv′) 0 (b .indexes) (b .values) q t
-          → (at + t .p ≤ cap) × (t .q ≤ size b)
-      turn-within {t} u =
-          let n = length-drop (c .p) (a .indexes) in
-          let l = ap length left-indexes in
-          let within = taken-within (part at (cap - at) si′) (part at (cap - at) sv′) 0 (u .left) (omega arith) in (
-            omega (arith, within, c .stands, r .far, g .walk .left .within),
-            taken-within (b .indexes) (b .values) q (u .right) (g .walk .right .within),
-          )
 
       -- an entry is left, and its place
       place-left : g .front < d
@@ -205,30 +205,22 @@ module _ {d : ℕ} {b : Vector} {low gap cap : ℕ} {si : List ℕ} {sv : List F
         room′ = omega (arith, under, lengths .1, r .roomy .long′);
       }
 
-      module _ {s : Step} {si″ : List ℕ} {sv″ : List Float} (m : Stepped si′ sv′ at cap n (b .indexes) (b .values) q s si″ sv″) where
-        -- a turn passes no more than there is, and one entry at least
-        pub step-within : (at + s .taken ≤ cap) × (s .q ≤ size b) × (q < s .taken + s .q)
-        step-within =
-            let within = turn-within (m .turned) in (
-              omega (arith, within .0, m .left),
-              omega (arith, within .1, m .right),
-              omega (arith, m .turned .some, m .left, m .right),
-            )
-
-        pub climbing-more : Climbing a b low gap si sv si″ sv″ (at + s .taken) (s .q) (s .n) (turns + 1)
-        climbing-more =
-            let t = m .turn in
-            let v : Turned (drop (c .p) (a .indexes)) (drop (c .p) (a .values)) 0 (b .indexes) (b .values) q t =
-            rw (left-indexes, left-values) at (m .turned)
-            in
-            rw (m .left, m .right)
-            (record {
-              p = c .p + t .p;
-              from = omega (arith, c .from);
-              stands = omega (arith, c .stands);
-              merging = merging-more sa sb (c .merging) (r .roomy .same) (turned-left (a .indexes) (a .values) (c .p) v)
-                  (omega (arith, under, r .roomy .long)) (omega (arith, under, r .roomy .long′)) refl (m .put);
-            })
+    -- one turn more
+    pub climbing-more : {s : Step} {si″ : List ℕ} {sv″ : List Float} → Stepped si′ sv′ at cap n (b .indexes) (b .values) q s si″ sv″
+        → Climbing a b low gap si sv si″ sv″ (s .at) (s .q) (s .n) (turns + 1)
+    climbing-more m =
+        let t = m .turn in
+        let v : Turned (drop (c .p) (a .indexes)) (drop (c .p) (a .values)) 0 (b .indexes) (b .values) q t =
+        rw (left-indexes, left-values) at (m .turned)
+        in
+        rw (m .left, m .right)
+        (record {
+          p = c .p + t .p;
+          from = omega (arith, c .from);
+          stands = omega (arith, c .stands);
+          merging = merging-more sa sb (c .merging) (r .roomy .same) (turned-left (a .indexes) (a .values) (c .p) v)
+              (omega (arith, under (m .some), r .roomy .long)) (omega (arith, under (m .some), r .roomy .long′)) refl (m .put);
+        })
 
     pub climbing-end : cap + size b ≤ at + q → Grown (joins Add a b) (rowTurns a b) cap si sv (record { len = n; turns = turns }) si′ sv′
     climbing-end h =
@@ -243,3 +235,16 @@ module _ {d : ℕ} {b : Vector} {low gap cap : ℕ} {si : List ℕ} {sv : List F
           values = stands-front (valuesBelow (joinAt Add a b) d) sv sv′ n cap (w .values) (as-many (joinAt Add a b) d ∙ w .count) fits
               (r .roomy .long′);
         }
+
+  -- many turns more
+  pub climbing-chain : {at q n turns : ℕ} {si′ : List ℕ} {sv′ : List Float} → Climbing a b low gap si sv si′ sv′ at q n turns
+      → {k : ℕ} {t : Step} {si″ : List ℕ} {sv″ : List Float} → Chain cap (b .indexes) (b .values) k (step at q n) si′ sv′ t si″ sv″
+      → Climbing a b low gap si sv si″ sv″ (t .at) (t .q) (t .n) (turns + k)
+  climbing-chain {at} {q} {n} {turns} {si′} {sv′} m =
+      let z : turns + 0 ≡ turns = omega arith in
+      let first : Climbing a b low gap si sv si′ sv′ at q n (turns + 0) = rw z m in
+      chain-keeps (λ k t x w. Climbing a b low gap si sv x w (t .at) (t .q) (t .n) (turns + k))
+      (λ k t x w u x′ w′ c s.
+      let e : turns + suc k ≡ turns + k + 1 = omega arith in
+      rw e (climbing-more c s))
+      first

@@ -2,6 +2,5 @@
 pub mod Moved
 pub mod Rest
 pub mod First
-pub mod Steps
 pub mod Climbs
 pub mod Whole

@@ -4,17 +4,14 @@
 // is read; and the entries below the row's first index are not touched.
 
 use merges::Both;
-ghost use mathlib.Core.Bool.{true, cond};
 ghost use mathlib.Core.Path.{_≡_};
-ghost use Prim.Native.Nat.{_+_, _-_, _≤_, _<_};
+ghost use Prim.Native.Nat.{_+_, _≤_};
 ghost use lib.ListN.{length, getD, take};
-ghost use lib.Ieee.{nan};
 ghost use Rattle.sparse.specs.Vectors.{vector};
 ghost use Rattle.merges.specs.Algebra.{joins};
-ghost use Rattle.regions.specs.Regions.{part};
 ghost use Rattle.merges.specs.declared.Op.the-variants.{Add};
 ghost use Rattle.in_place.specs.Turns.{rowTurns};
-ghost use Rattle.in_place.specs.Loops.{shifted, parted, Movable, Shifted, Steady, Stepped, Roomy, around, Raised, Grown};
+ghost use Rattle.in_place.specs.Loops.{shifted, Movable, Shifted, Roomy, around, Raised, Grown};
 
 // The first index of a row, or `dims` if it has none.
 fn first_index(dims: u32, indexes: &[u32]) -> u32
@@ -61,121 +58,8 @@ fn shift(si: &mut [u32], sv: &mut [f32], low: usize, len: usize, gap: usize)
     shift_values(sv, low, len, gap);
 }
 
-// What a turn of a merge came to: how many of the state's entries it took, the row's next entry, and the next to write.
-struct Step {
-    taken: usize,
-    q: usize,
-    n: usize,
-}
-
-// A turn of a merge of the state's entries from `at` up to `cap` and the row's from q on, written as the entry n.
-fn plain_step(
-    si: &mut [u32],
-    sv: &mut [f32],
-    at: usize,
-    cap: usize,
-    n: usize,
-    ib: &[u32],
-    vb: &[f32],
-    q: usize,
-) -> Step
-    requires { ⌜ Steady (now si) (now sv) at cap n (now ib) (now vb) q ⌝ }
-    ensures { λ r. ⌜ Stepped (now (si .entry)) (now (sv .entry)) at cap n (now (ib .entry)) (now (vb .entry)) q r (now (si .exit)) (now (sv .exit)) ⌝ }
-{
-    let t = walks::one_turn(&si[at..cap], &sv[at..cap], 0, ib, vb, q);
-    let x = t.x;
-    let y = t.y;
-    let z = steps::add_cells(x, y);
-    let next = walks::put(si, sv, n, t.place, z);
-    Step {
-        taken: t.p,
-        q: t.q,
-        n: next,
-    }
-}
-
-// The first of x, or the entry q of y: one address is chosen, and read.
-fn pick(left: bool, x: &[f32], y: &[f32], q: usize) -> f32
-    requires { ⌜ (0 < length (now x)) × (q < length (now y)) ⌝ }
-    ensures { λ r. ⌜ r ≡ cond left (getD (now (x .entry)) 0 nan) (getD (now (y .entry)) q nan) ⌝ }
-{
-    let v = if left { &x[0] } else { &y[q] };
-    *v
-}
-
-// Whether both sides have an entry left, with another index each.
-fn apart(ia: &[u32], ib: &[u32], q: usize) -> bool
-    ensures { λ r. ⌜ r ≡ parted (now (ia .entry)) (now (ib .entry)) q ⌝ }
-{
-    if ia.len() == 0 {
-        return false;
-    }
-    if ib.len() <= q {
-        return false;
-    }
-    ia[0] != ib[q]
-}
-
-// One of two indexes.
-fn lower(left: bool, i: u32, j: u32) -> u32
-    ensures { λ r. ⌜ r ≡ cond left i j ⌝ }
-{
-    if left { i } else { j }
-}
-
-// A turn where `apart` holds, without a branch on which side is next.
-fn lone_step(
-    si: &mut [u32],
-    sv: &mut [f32],
-    at: usize,
-    cap: usize,
-    n: usize,
-    ib: &[u32],
-    vb: &[f32],
-    q: usize,
-) -> Step
-    requires { ⌜ Steady (now si) (now sv) at cap n (now ib) (now vb) q ⌝ }
-    requires { ⌜ parted (part at (cap - at) (now si)) (now ib) q ≡ true ⌝ }
-    ensures { λ r. ⌜ Stepped (now (si .entry)) (now (sv .entry)) at cap n (now (ib .entry)) (now (vb .entry)) q r (now (si .exit)) (now (sv .exit)) ⌝ }
-{
-    let i = si[at];
-    let j = ib[q];
-    let left = i < j;
-    let v = pick(left, &sv[at..cap], vb, q);
-    si[n] = lower(left, i, j);
-    sv[n] = v;
-    Step {
-        taken: left as usize,
-        q: q + !left as usize,
-        n: n + 1,
-    }
-}
-
-// A turn of a merge. Where the two sides are about as long, which of them is next cannot be foreseen.
-fn any_step(
-    even: bool,
-    si: &mut [u32],
-    sv: &mut [f32],
-    at: usize,
-    cap: usize,
-    n: usize,
-    ib: &[u32],
-    vb: &[f32],
-    q: usize,
-) -> Step
-    requires { ⌜ Steady (now si) (now sv) at cap n (now ib) (now vb) q ⌝ }
-    ensures { λ r. ⌜ Stepped (now (si .entry)) (now (sv .entry)) at cap n (now (ib .entry)) (now (vb .entry)) q r (now (si .exit)) (now (sv .exit)) ⌝ }
-{
-    if even {
-        if apart(&si[at..cap], ib, q) {
-            return lone_step(si, sv, at, cap, n, ib, vb, q);
-        }
-    }
-    plain_step(si, sv, at, cap, n, ib, vb, q)
-}
-
 // Merges a row with the entries of a state: the first `low` lie below the row and stand in front, the
-// others stand from `gap + low` up to `cap`. The answer stands in front.
+// others stand from `gap + low` up to `cap`. The answer stands in front. After each turn comes a stride of many.
 fn merge_up(
     dims: u32,
     si: &mut [u32],
@@ -190,16 +74,19 @@ fn merge_up(
     ensures { λ r. ⌜ Grown (joins Add (vector dims (around low gap cap (now (si .entry))) (around low gap cap (now (sv .entry)))) (vector dims (now (ib .entry)) (now (vb .entry)))) (rowTurns (vector dims (around low gap cap (now (si .entry))) (around low gap cap (now (sv .entry)))) (vector dims (now (ib .entry)) (now (vb .entry)))) cap (now (si .entry)) (now (sv .entry)) r (now (si .exit)) (now (sv .exit)) ⌝ }
 {
     let mut at = gap + low;
-    let even = (cap - at) / 4 <= ib.len();
+    let room = cap - at;
+    let long = ib.len() < room / 4;
+    let far = ib.len() < room / 32;
     let mut q: usize = 0;
     let mut n = low;
     let mut turns: usize = 0;
     while at + q < cap + ib.len() {
-        let s = any_step(even, si, sv, at, cap, n, ib, vb, q);
-        at += s.taken;
-        q = s.q;
-        n = s.n;
-        turns += 1;
+        let s = strides::any_step(si, sv, at, cap, n, ib, vb, q);
+        let r = strides::any_stride(long, far, si, sv, s.at, cap, s.n, ib, vb, s.q);
+        at = r.at;
+        q = r.q;
+        n = r.n;
+        turns += 1 + r.turns;
     }
     Both {
         len: n,

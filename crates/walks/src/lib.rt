@@ -123,6 +123,25 @@ pub fn partition_point(indexes: &[u32], place: u32) -> usize
     low
 }
 
+// The same, found in doubling steps first and then by halving, so that a near place is found soon. For the crates
+// above, not for users.
+pub fn near_point(indexes: &[u32], place: u32) -> usize
+    requires { ⌜ Rising (now indexes) ⌝ }
+    ensures { λ r. ⌜ Split (now (indexes .entry)) r place ⌝ }
+{
+    let mut low: usize = 0;
+    let mut step: usize = 1;
+    while low + step <= indexes.len() {
+        let end = low + step - 1;
+        if place <= indexes[end] {
+            return low + partition_point(&indexes[low..end], place);
+        }
+        low += step;
+        step += step;
+    }
+    low + partition_point(&indexes[low..indexes.len()], place)
+}
+
 // The smaller of two indexes.
 pub fn lower(i: u32, j: u32) -> u32
     ensures { λ r. ⌜ r ≡ cond (ltb i j) i j ⌝ }

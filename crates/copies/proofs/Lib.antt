@@ -1,0 +1,2 @@
+-- Laws of copies.
+pub mod Copies

@@ -1,0 +1,2 @@
+-- The definitions that the contracts of `copies` cite.
+pub mod Copies

@@ -1,0 +1,2 @@
+-- The definitions that the contracts of `strides` cite.
+pub mod Strides
