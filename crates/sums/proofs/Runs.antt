@@ -63,6 +63,11 @@ module _ {A : Type 0} {step : A → Cell → Cell → A} {k : ℕ} {acc : A} {is
         }
 
 -- ---- a sum over two vectors that takes them
+
+-- its entries are few
+pub few : {a b : Vector} → Ready a b → {p q : ℕ} → p ≤ size a → q ≤ size b → p + q ≤ 2097150
+few r l h = omega (arith, size-most (r .left), r .left .high, size-most (r .right), r .right .high)
+
 pub summing-added : {A : Type 0} {step : A → Cell → Cell → A} (still : (acc : A) → step acc Empty Empty ≡ acc) {start : A} {a b : Vector} (r : Ready a b)
     → a .dims ≡ b .dims → {p q : ℕ} {acc : A} → Summing step start a b p q acc → {sum : A} {u v : ℕ}
     → Added step acc (a .indexes) (a .values) p (b .indexes) (b .values) q sum u v → Summing step start a b u v sum
