@@ -3,41 +3,17 @@
 use refusal::Checked;
 use refusal::Distance;
 use sums::Kind;
-use sums::Part;
-use sums::ThreePart;
 pub use sums::Three;
 ghost use mathlib.Core.Path.{_≡_};
 ghost use Rattle.sparse.specs.Vectors.{vector};
-ghost use Rattle.sums.specs.Sums.{stepOf, sumOf, threeStep, threeOf};
-ghost use Rattle.sums.specs.Loops.{Ready, Running, Ran};
+ghost use Rattle.sums.specs.Sums.{sumOf, threeOf};
+ghost use Rattle.sums.specs.Loops.{Ready};
 ghost use Rattle.folds.specs.Calls.{Distances, Dots, L2s, SumsThree};
 
 // Three sums, or a refusal.
 pub enum Summed {
     Sums(Three),
     Refused(u32, usize),
-}
-
-// A run where few places are common to both sides, or one where most are.
-fn any_run(
-    kind: Kind,
-    quick: bool,
-    k: usize,
-    acc: f32,
-    ia: &[u32],
-    va: &[f32],
-    p: usize,
-    ib: &[u32],
-    vb: &[f32],
-    q: usize,
-) -> Part
-    requires { ⌜ Running (now ia) (now va) p (now ib) (now vb) q k ⌝ }
-    ensures { λ r. ⌜ Ran (stepOf kind) k acc (now (ia .entry)) (now (va .entry)) p (now (ib .entry)) (now (vb .entry)) q (r .acc) (r .p) (r .q) ⌝ }
-{
-    if quick {
-        return sums::quick_run(kind, k, acc, ia, va, p, ib, vb, q);
-    }
-    sums::met_run(kind, k, acc, ia, va, p, ib, vb, q)
 }
 
 // The sum over two vectors of equal dims, in rising order. How far the last run came says how many of its turns met, and so which run
@@ -52,7 +28,7 @@ fn sum_of(kind: Kind, dims: u32, ia: &[u32], va: &[f32], ib: &[u32], vb: &[f32])
     let mut quick = true;
     while p < ia.len() && q < ib.len() {
         let k = walks::smaller(64, walks::smaller(ia.len() - p, ib.len() - q));
-        let s = any_run(kind, quick, k, acc, ia, va, p, ib, vb, q);
+        let s = runs::run(kind, quick, k, acc, ia, va, p, ib, vb, q);
         quick = s.p + s.q < p + q + 104;
         acc = s.acc;
         p = s.p;
@@ -103,27 +79,6 @@ pub fn l2(dims_a: u32, ia: &[u32], va: &[f32], dims_b: u32, ib: &[u32], vb: &[f3
     distance(Kind::Difference, dims_a, ia, va, dims_b, ib, vb)
 }
 
-// The same for three sums.
-fn any_three_run(
-    quick: bool,
-    k: usize,
-    acc: Three,
-    ia: &[u32],
-    va: &[f32],
-    p: usize,
-    ib: &[u32],
-    vb: &[f32],
-    q: usize,
-) -> ThreePart
-    requires { ⌜ Running (now ia) (now va) p (now ib) (now vb) q k ⌝ }
-    ensures { λ r. ⌜ Ran threeStep k acc (now (ia .entry)) (now (va .entry)) p (now (ib .entry)) (now (vb .entry)) q (r .acc) (r .p) (r .q) ⌝ }
-{
-    if quick {
-        return sums::quick_three_run(k, acc, ia, va, p, ib, vb, q);
-    }
-    sums::met_three_run(k, acc, ia, va, p, ib, vb, q)
-}
-
 // The three sums over two vectors of equal dims.
 fn three_of(dims: u32, ia: &[u32], va: &[f32], ib: &[u32], vb: &[f32]) -> Three
     requires { ⌜ Ready (vector dims (now ia) (now va)) (vector dims (now ib) (now vb)) ⌝ }
@@ -139,7 +94,7 @@ fn three_of(dims: u32, ia: &[u32], va: &[f32], ib: &[u32], vb: &[f32]) -> Three
     let mut quick = true;
     while p < ia.len() && q < ib.len() {
         let k = walks::smaller(64, walks::smaller(ia.len() - p, ib.len() - q));
-        let s = any_three_run(quick, k, acc, ia, va, p, ib, vb, q);
+        let s = three_runs::run(quick, k, acc, ia, va, p, ib, vb, q);
         quick = s.p + s.q < p + q + 104;
         acc = s.acc;
         p = s.p;

@@ -1,5 +1,5 @@
-// The turns of a sum over two sparse vectors, and runs of them: products, squared differences, and three sums at once. For the crate
-// above, not for users.
+// What a place adds to a sum over two sparse vectors: a product, a squared difference, or what three sums take of it. For the loops of
+// the crates above, not for users.
 
 use sparse::Cell;
 ghost use Prim.Native.Nat.{_<_};
@@ -10,7 +10,7 @@ ghost use lib.Ieee.{nan};
 ghost use Rattle.sparse.specs.declared.Cell.the-variants.{Empty, Full};
 ghost use Rattle.walks.specs.Walk.{Standing};
 ghost use Rattle.sums.specs.Sums.{productStep, differenceStep, squareStep, stepOf, threeStep};
-ghost use Rattle.sums.specs.Loops.{nextOf, Added, Running, Ran};
+ghost use Rattle.sums.specs.Loops.{nextOf, Added};
 
 // What is added up: products of common entries, or squared differences.
 pub enum Kind {
@@ -78,7 +78,7 @@ fn add_difference(acc: f32, x: Cell, y: Cell) -> f32
     }
 }
 
-fn add_place(kind: Kind, acc: f32, x: Cell, y: Cell) -> f32
+pub fn add_place(kind: Kind, acc: f32, x: Cell, y: Cell) -> f32
     ensures { λ r. ⌜ r ≡ stepOf kind acc x y ⌝ }
 {
     match kind {
@@ -98,7 +98,7 @@ fn add_square(acc: f32, x: Cell) -> f32
 }
 
 // The three sums with one more place.
-fn add_three(t: Three, x: Cell, y: Cell) -> Three
+pub fn add_three(t: Three, x: Cell, y: Cell) -> Three
     ensures { λ r. ⌜ r ≡ threeStep t x y ⌝ }
 {
     Three {
@@ -126,7 +126,7 @@ fn quick_difference(acc: f32, i: u32, j: u32, x: f32, y: f32) -> f32
     acc + d * d
 }
 
-fn quick_place(kind: Kind, acc: f32, i: u32, j: u32, x: f32, y: f32) -> f32
+pub fn quick_place(kind: Kind, acc: f32, i: u32, j: u32, x: f32, y: f32) -> f32
     ensures { λ r. ⌜ r ≡ nextOf (stepOf kind) acc i j x y ⌝ }
 {
     match kind {
@@ -135,7 +135,7 @@ fn quick_place(kind: Kind, acc: f32, i: u32, j: u32, x: f32, y: f32) -> f32
     }
 }
 
-fn quick_three(t: Three, i: u32, j: u32, x: f32, y: f32) -> Three
+pub fn quick_three(t: Three, i: u32, j: u32, x: f32, y: f32) -> Three
     ensures { λ r. ⌜ r ≡ nextOf threeStep t i j x y ⌝ }
 {
     Three {
@@ -148,7 +148,7 @@ fn quick_three(t: Three, i: u32, j: u32, x: f32, y: f32) -> Three
 // ---- a place that one side has alone
 
 // A square is that of the difference to zero: one value is chosen, and read.
-fn lone_place(kind: Kind, acc: f32, left: bool, va: &[f32], p: usize, vb: &[f32], q: usize) -> f32
+pub fn lone_place(kind: Kind, acc: f32, left: bool, va: &[f32], p: usize, vb: &[f32], q: usize) -> f32
     requires { ⌜ (p < length (now va)) × (q < length (now vb)) ⌝ }
     ensures { λ r. ⌜ r ≡ cond left (stepOf kind acc (Full (getD (now (va .entry)) p nan)) Empty) (stepOf kind acc Empty (Full (getD (now (vb .entry)) q nan))) ⌝ }
 {
@@ -158,168 +158,6 @@ fn lone_place(kind: Kind, acc: f32, left: bool, va: &[f32], p: usize, vb: &[f32]
             let d = walks::pick(left, va, p, vb, q);
             acc + d * d
         }
-    }
-}
-
-// ---- runs: so many turns with one kind of turn, where both sides have as many entries left
-
-// Turns without a branch on which side is next, for sides with few places in common.
-pub fn quick_run(
-    kind: Kind,
-    k: usize,
-    acc: f32,
-    ia: &[u32],
-    va: &[f32],
-    p: usize,
-    ib: &[u32],
-    vb: &[f32],
-    q: usize,
-) -> Part
-    requires { ⌜ Running (now ia) (now va) p (now ib) (now vb) q k ⌝ }
-    ensures { λ r. ⌜ Ran (stepOf kind) k acc (now (ia .entry)) (now (va .entry)) p (now (ib .entry)) (now (vb .entry)) q (r .acc) (r .p) (r .q) ⌝ }
-{
-    let mut u = p;
-    let mut v = q;
-    let mut sum = acc;
-    let mut taken: usize = 0;
-    while taken < k {
-        let i = ia[u];
-        let j = ib[v];
-        let x = va[u];
-        let y = vb[v];
-        sum = quick_place(kind, sum, i, j, x, y);
-        u += (i <= j) as usize;
-        v += (j <= i) as usize;
-        taken += 1;
-    }
-    Part {
-        acc: sum,
-        p: u,
-        q: v,
-    }
-}
-
-// Turns with a branch on whether both sides meet, for sides with most places in common.
-pub fn met_run(
-    kind: Kind,
-    k: usize,
-    acc: f32,
-    ia: &[u32],
-    va: &[f32],
-    p: usize,
-    ib: &[u32],
-    vb: &[f32],
-    q: usize,
-) -> Part
-    requires { ⌜ Running (now ia) (now va) p (now ib) (now vb) q k ⌝ }
-    ensures { λ r. ⌜ Ran (stepOf kind) k acc (now (ia .entry)) (now (va .entry)) p (now (ib .entry)) (now (vb .entry)) q (r .acc) (r .p) (r .q) ⌝ }
-{
-    let mut u = p;
-    let mut v = q;
-    let mut sum = acc;
-    let mut taken: usize = 0;
-    while taken < k {
-        let i = ia[u];
-        let j = ib[v];
-        if i == j {
-            let x = va[u];
-            let y = vb[v];
-            sum = add_place(kind, sum, Cell::Full(x), Cell::Full(y));
-            u += 1;
-            v += 1;
-            taken += 1;
-        } else {
-            sum = lone_place(kind, sum, i < j, va, u, vb, v);
-            u += (i < j) as usize;
-            v += (j < i) as usize;
-            taken += 1;
-        }
-    }
-    Part {
-        acc: sum,
-        p: u,
-        q: v,
-    }
-}
-
-// The same for three sums.
-pub fn quick_three_run(
-    k: usize,
-    acc: Three,
-    ia: &[u32],
-    va: &[f32],
-    p: usize,
-    ib: &[u32],
-    vb: &[f32],
-    q: usize,
-) -> ThreePart
-    requires { ⌜ Running (now ia) (now va) p (now ib) (now vb) q k ⌝ }
-    ensures { λ r. ⌜ Ran threeStep k acc (now (ia .entry)) (now (va .entry)) p (now (ib .entry)) (now (vb .entry)) q (r .acc) (r .p) (r .q) ⌝ }
-{
-    let mut u = p;
-    let mut v = q;
-    let mut sum = acc;
-    let mut taken: usize = 0;
-    while taken < k {
-        let i = ia[u];
-        let j = ib[v];
-        let x = va[u];
-        let y = vb[v];
-        sum = quick_three(sum, i, j, x, y);
-        u += (i <= j) as usize;
-        v += (j <= i) as usize;
-        taken += 1;
-    }
-    ThreePart {
-        acc: sum,
-        p: u,
-        q: v,
-    }
-}
-
-pub fn met_three_run(
-    k: usize,
-    acc: Three,
-    ia: &[u32],
-    va: &[f32],
-    p: usize,
-    ib: &[u32],
-    vb: &[f32],
-    q: usize,
-) -> ThreePart
-    requires { ⌜ Running (now ia) (now va) p (now ib) (now vb) q k ⌝ }
-    ensures { λ r. ⌜ Ran threeStep k acc (now (ia .entry)) (now (va .entry)) p (now (ib .entry)) (now (vb .entry)) q (r .acc) (r .p) (r .q) ⌝ }
-{
-    let mut u = p;
-    let mut v = q;
-    let mut sum = acc;
-    let mut taken: usize = 0;
-    while taken < k {
-        let i = ia[u];
-        let j = ib[v];
-        if i == j {
-            let x = va[u];
-            let y = vb[v];
-            sum = add_three(sum, Cell::Full(x), Cell::Full(y));
-            u += 1;
-            v += 1;
-            taken += 1;
-        } else if i < j {
-            let x = va[u];
-            sum = add_three(sum, Cell::Full(x), Cell::Empty);
-            u += 1;
-            taken += 1;
-        } else {
-            let y = vb[v];
-            sum = add_three(sum, Cell::Empty, Cell::Full(y));
-            v += 1;
-            taken += 1;
-        }
-    }
-    ThreePart {
-        acc: sum,
-        p: u,
-        q: v,
     }
 }
 

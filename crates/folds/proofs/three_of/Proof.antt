@@ -45,8 +45,8 @@ smaller-requires c κs = search needs
 smaller-requires-2 : tie.Need-smaller-requires-2 Inv-loop μ-loop Inv-loop2 μ-loop2
 smaller-requires-2 c κs = search needs
 
-any-three-run-requires : tie.Need-any-three-run-requires Inv-loop μ-loop Inv-loop2 μ-loop2
-any-three-run-requires c κs =
+run-requires : tie.Need-run-requires Inv-loop μ-loop Inv-loop2 μ-loop2
+run-requires c κs =
     let l = c .before .before .before .before in
     let t = start l in
     let h = l .loop .inv .going .walk in
@@ -58,21 +58,21 @@ add-quick : tie.Need-add-quick Inv-loop μ-loop Inv-loop2 μ-loop2
 add-quick c =
     let l = c .before .before .before .before .before .before in
     let h = l .loop .inv .going .walk in
-    let e = c .before .any-three-run .ensures in
+    let e = c .before .run .ensures in
     omega (arith, few (start l .pre) (e .within) (e .within′), few (start l .pre) (h .left .within) (h .right .within))
 
 add-quick-2 : tie.Need-add-quick-2 Inv-loop μ-loop Inv-loop2 μ-loop2
 add-quick-2 c =
     let l = c .before .before .before .before .before .before in
     let h = l .loop .inv .going .walk in
-    let e = c .before .any-three-run .ensures in
+    let e = c .before .run .ensures in
     omega (arith, few (start l .pre) (e .within) (e .within′), few (start l .pre) (h .left .within) (h .right .within))
 
 add-quick-3 : tie.Need-add-quick-3 Inv-loop μ-loop Inv-loop2 μ-loop2
 add-quick-3 c =
     let l = c .before .before .before .before .before .before in
     let h = l .loop .inv .going .walk in
-    let e = c .before .any-three-run .ensures in
+    let e = c .before .run .ensures in
     omega (arith, few (start l .pre) (e .within) (e .within′), few (start l .pre) (h .left .within) (h .right .within))
 
 loop-less : tie.Need-loop-less Inv-loop μ-loop Inv-loop2 μ-loop2
@@ -82,7 +82,7 @@ loop-less c =
     let a = start l .args in
     let k = r .before .smaller2 .ensures in
     let m = r .before .before .smaller .ensures in
-    let e = r .any-three-run .ensures in
+    let e = r .run .ensures in
     omega (arith, e .passed, e .within, e .within′, k, m, ltb-true (l .loop .q) (length (a .ib .now)) (r .before .before .before .if1 .taken))
 
 loop-again : tie.Need-loop-again Inv-loop μ-loop Inv-loop2 μ-loop2
@@ -90,7 +90,7 @@ loop-again c =
     let r = c .before .before in
     let l = r .before .before .before .before .before in
     let t = start l in
-    summing-chain still-three (t .pre) refl (l .loop .inv) (r .any-three-run .ensures .chain)
+    summing-chain still-three (t .pre) refl (l .loop .inv) (r .run .ensures .chain)
 
 loop2-holds : tie.Need-loop2-holds Inv-loop μ-loop Inv-loop2 μ-loop2
 loop2-holds c = c .before .loop .inv
@@ -138,7 +138,7 @@ three-of-spec =
     sub-smaller-2
     smaller-requires
     smaller-requires-2
-    any-three-run-requires
+    run-requires
     add-quick
     add-quick-2
     add-quick-3

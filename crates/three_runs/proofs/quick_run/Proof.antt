@@ -1,15 +1,15 @@
--- `sums::quick_three_run` meets its contract: its turns are those of a walk, whichever side is next. The measure is how many are left. Assumes nothing.
+-- `three_runs::quick_run` meets its contract: its turns are those of a walk, whichever side is next. The measure is how many are left. Assumes nothing.
 use Prim.Native.Nat.{_-_, _<_}
 use native.Mathlib.Omega.{arith}
 use lib.Dec.{leb}
 use lib.ListN.{length, getD}
 use borrow.Author.Needs.{needs}
 use Rattle.walks.proofs.Choices.{byte-most}
 use Rattle.sums.specs.Sums.{threeStep}
 use Rattle.sums.proofs.Turns.{quick-added}
 use Rattle.sums.proofs.Runs.{Runs, runs-start, runs-left, runs-right, runs-more, ran}
-use Rattle.sums.proofs.quick_three_run.Statement.{statement}
-use Rattle.sums.proofs.quick_three_run.Tie as tie
+use Rattle.three_runs.proofs.quick_run.Statement.{statement}
+use Rattle.three_runs.proofs.quick_run.Tie as tie
 
 abbrev Inv-loop : tie.InvT-loop
 Inv-loop k ia va p ib vb q u₀ v₀ sum₀ taken₀ u v sum taken = Runs threeStep k sum₀ ia va p ib vb q u v sum taken
@@ -110,8 +110,8 @@ loop-again c =
 returns : tie.Need-returns Inv-loop μ-loop
 returns c = ran (start (c .before) .pre) (c .before .loop .inv) (omega arith)
 
-pub quick-three-run-spec : {M : Type 1} → statement M
-quick-three-run-spec =
+pub quick-run-spec : {M : Type 1} → statement M
+quick-run-spec =
     tie.close
     (tie.spec
     Inv-loop

@@ -1,15 +1,15 @@
--- `sums::quick_run` meets its contract: its turns are those of a walk, whichever side is next. The measure is how many are left. Assumes nothing.
+-- `runs::quick_run` meets its contract: its turns are those of a walk, whichever side is next. The measure is how many are left. Assumes nothing.
 use Prim.Native.Nat.{_-_, _<_}
 use native.Mathlib.Omega.{arith}
 use lib.Dec.{leb}
 use lib.ListN.{length, getD}
 use borrow.Author.Needs.{needs}
 use Rattle.walks.proofs.Choices.{byte-most}
 use Rattle.sums.specs.Sums.{stepOf}
 use Rattle.sums.proofs.Turns.{quick-added}
 use Rattle.sums.proofs.Runs.{Runs, runs-start, runs-left, runs-right, runs-more, ran}
-use Rattle.sums.proofs.quick_run.Statement.{statement}
-use Rattle.sums.proofs.quick_run.Tie as tie
+use Rattle.runs.proofs.quick_run.Statement.{statement}
+use Rattle.runs.proofs.quick_run.Tie as tie
 
 abbrev Inv-loop : tie.InvT-loop
 Inv-loop kind k acc ia va p ib vb q u₀ v₀ sum₀ taken₀ u v sum taken = Runs (stepOf kind) k acc ia va p ib vb q u v sum taken

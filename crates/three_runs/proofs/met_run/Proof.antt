@@ -1,13 +1,13 @@
--- `sums::met_three_run` meets its contract: its turns are those of a walk, by whether the sides meet. The measure is how many are left. Assumes nothing.
+-- `three_runs::met_run` meets its contract: its turns are those of a walk, by whether the sides meet. The measure is how many are left. Assumes nothing.
 use Prim.Native.Nat.{_-_, _<_}
 use native.Mathlib.Omega.{arith}
 use lib.ListN.{length, getD}
 use borrow.Author.Needs.{needs}
 use Rattle.sums.specs.Sums.{threeStep}
 use Rattle.sums.proofs.Turns.{met-added, left-added, right-added}
 use Rattle.sums.proofs.Runs.{Runs, runs-start, runs-left, runs-right, runs-more, ran}
-use Rattle.sums.proofs.met_three_run.Statement.{statement}
-use Rattle.sums.proofs.met_three_run.Tie as tie
+use Rattle.three_runs.proofs.met_run.Statement.{statement}
+use Rattle.three_runs.proofs.met_run.Tie as tie
 
 abbrev Inv-loop : tie.InvT-loop
 Inv-loop k ia va p ib vb q u₀ v₀ sum₀ taken₀ u v sum taken = Runs threeStep k sum₀ ia va p ib vb q u v sum taken
@@ -162,8 +162,8 @@ loop-again-3 c =
 returns : tie.Need-returns Inv-loop μ-loop
 returns c = ran (start (c .before) .pre) (c .before .loop .inv) (omega arith)
 
-pub met-three-run-spec : {M : Type 1} → statement M
-met-three-run-spec =
+pub met-run-spec : {M : Type 1} → statement M
+met-run-spec =
     tie.close
     (tie.spec
     Inv-loop
