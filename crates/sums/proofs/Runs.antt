@@ -1,5 +1,5 @@
 -- Many turns of a sum, one after the other. Assumes nothing.
-use Prim.Native.Nat.{ℕ, suc, _+_, _≤_, _<_}
+use Prim.Native.Nat.{ℕ, _+_, _≤_, _<_}
 use native.Mathlib.Numerals.{add-one}
 use native.Mathlib.Omega.{arith}
 use mathlib.Core.List.{List}
@@ -28,7 +28,8 @@ pub record Runs {A : Type 0} (step : A → Cell → Cell → A) (k : ℕ) (acc :
   pub right : v ≤ q + taken
   pub passed : p + q + taken ≤ u + v
 
-module _ {A : Type 0} {step : A → Cell → Cell → A} {k : ℕ} {acc : A} {is : List ℕ} {vs : List Float} {p : ℕ} {js : List ℕ} {ws : List Float} {q : ℕ} where
+module _ {A : Type 0} {step : A → Cell → Cell → A} {k : ℕ} {acc : A} {is : List ℕ} {vs : List Float} {p : ℕ} {js : List ℕ} {ws : List Float}
+    {q : ℕ} where
   pub runs-start : Runs step k acc is vs p js ws q p q acc 0
   runs-start = record { chain = none; most = omega arith; left = omega arith; right = omega arith; passed = omega arith }
 
@@ -40,7 +41,9 @@ module _ {A : Type 0} {step : A → Cell → Cell → A} {k : ℕ} {acc : A} {is
     pub runs-right : taken < k → v < length js
     runs-right l = omega (arith, h .right, g .right)
 
-    pub runs-more : taken < k → {s : A} {u′ v′ : ℕ} → Added step sum is vs u js ws v s u′ v′ → Runs step k acc is vs p js ws q u′ v′ s (taken + 1)
+    -- one turn more
+    pub runs-more : taken < k → {s : A} {u′ v′ : ℕ} → Added step sum is vs u js ws v s u′ v′
+        → Runs step k acc is vs p js ws q u′ v′ s (taken + 1)
     runs-more l s =
         let a = taken-most is vs u (s .turn .place) (s .turn .x) (s .turn .p) (s .turned .left) in
         let b = taken-most js ws v (s .turn .place) (s .turn .y) (s .turn .q) (s .turned .right) in
@@ -52,6 +55,7 @@ module _ {A : Type 0} {step : A → Cell → Cell → A} {k : ℕ} {acc : A} {is
           passed = omega (arith, g .passed, s .turned .some, s .left, s .right);
         }
 
+    -- all of them
     pub ran : k ≤ taken → Ran step k acc is vs p js ws q sum u v
     ran l =
         let e : taken ≡ k = omega (arith, g .most) in

@@ -1,12 +1,12 @@
 -- A turn of a sum where both sides have an entry left, by whichever step. Assumes nothing.
-use Prim.Native.Nat.{ℕ, _+_, _≤_, _<_}
+use Prim.Native.Nat.{ℕ, _+_, _<_}
 use native.Mathlib.Nat.{add-zero}
 use native.Mathlib.Omega.{arith}
-use mathlib.Core.Bool.{Bool, true, false, cond}
+use mathlib.Core.Bool.{cond}
 use mathlib.Core.List.{List}
 use mathlib.Core.Path.{_≡_, refl, sym}
 use mir.Val.{boolByte}
-use lib.Dec.{ltb, leb, eqb}
+use lib.Dec.{ltb, leb}
 use lib.ListN.{length, getD}
 use lib.Ieee.{Float, nan}
 use borrow.Author.Tests.{lt-ltb, le-ltb}
@@ -43,7 +43,8 @@ module _ {A : Type 0} (step : A → Cell → Cell → A) (acc : A) (is : List �
       record { turn = turn i (Full x) (Full y) (p + 1) (q + 1); turned = to-both hl hr (sym m); sums = e; left = refl; right = refl }
 
   -- the turn without a branch
-  pub quick-added : {sum : A} → sum ≡ nextOf step acc i j x y → Added step acc is vs p js ws q sum (p + boolByte (leb i j)) (q + boolByte (leb j i))
+  pub quick-added : {sum : A} → sum ≡ nextOf step acc i j x y
+      → Added step acc is vs p js ws q sum (p + boolByte (leb i j)) (q + boolByte (leb j i))
   quick-added e =
       whichever i j
       (λ l. let h = left-first i j l in rw (h .2, h .3, add-zero) (left-added l (rw (h .0, h .1) at e)))

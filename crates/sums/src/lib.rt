@@ -148,7 +148,15 @@ pub fn quick_three(t: Three, i: u32, j: u32, x: f32, y: f32) -> Three
 // ---- a place that one side has alone
 
 // A square is that of the difference to zero: one value is chosen, and read.
-pub fn lone_place(kind: Kind, acc: f32, left: bool, va: &[f32], p: usize, vb: &[f32], q: usize) -> f32
+pub fn lone_place(
+    kind: Kind,
+    acc: f32,
+    left: bool,
+    va: &[f32],
+    p: usize,
+    vb: &[f32],
+    q: usize,
+) -> f32
     requires { ⌜ (p < length (now va)) × (q < length (now vb)) ⌝ }
     ensures { λ r. ⌜ r ≡ cond left (stepOf kind acc (Full (getD (now (va .entry)) p nan)) Empty) (stepOf kind acc Empty (Full (getD (now (vb .entry)) q nan))) ⌝ }
 {

@@ -91,7 +91,8 @@ loop-again c =
     let l = i .before in
     let a = start l .args in
     runs-more (start l .pre) (l .loop .inv) (omega arith)
-    (met-added (stepOf (a .kind)) (l .loop .sum) (a .ia .now) (a .va .now) (l .loop .u) (a .ib .now) (a .vb .now) (l .loop .v) (left-in i) (right-in i) (c .before .before .before .if1 .taken) (c .add-place .ensures))
+    (met-added (stepOf (a .kind)) (l .loop .sum) (a .ia .now) (a .va .now) (l .loop .u) (a .ib .now) (a .vb .now) (l .loop .v)
+    (left-in i) (right-in i) (c .before .before .before .if1 .taken) (c .add-place .ensures))
 
 lone-place-requires : tie.Need-lone-place-requires Inv-loop μ-loop
 lone-place-requires c κs =
@@ -131,7 +132,8 @@ loop-again-2 c =
     let l = i .before in
     let a = start l .args in
     runs-more (start l .pre) (l .loop .inv) (omega arith)
-    (lone-added (stepOf (a .kind)) (l .loop .sum) (a .ia .now) (a .va .now) (l .loop .u) (a .ib .now) (a .vb .now) (l .loop .v) (left-in i) (right-in i) (c .before .if1 .left) (c .lone-place .ensures))
+    (lone-added (stepOf (a .kind)) (l .loop .sum) (a .ia .now) (a .va .now) (l .loop .u) (a .ib .now) (a .vb .now) (l .loop .v)
+    (left-in i) (right-in i) (c .before .if1 .left) (c .lone-place .ensures))
 
 returns : tie.Need-returns Inv-loop μ-loop
 returns c = ran (start (c .before) .pre) (c .before .loop .inv) (omega arith)

@@ -105,7 +105,8 @@ loop-again c =
     let l = i .before in
     let a = start l .args in
     runs-more (start l .pre) (l .loop .inv) (omega arith)
-    (quick-added (stepOf (a .kind)) (l .loop .sum) (a .ia .now) (a .va .now) (l .loop .u) (a .ib .now) (a .vb .now) (l .loop .v) (left-in i) (right-in i) (c .quick-place .ensures))
+    (quick-added (stepOf (a .kind)) (l .loop .sum) (a .ia .now) (a .va .now) (l .loop .u) (a .ib .now) (a .vb .now) (l .loop .v)
+    (left-in i) (right-in i) (c .quick-place .ensures))
 
 returns : tie.Need-returns Inv-loop μ-loop
 returns c = ran (start (c .before) .pre) (c .before .loop .inv) (omega arith)

@@ -1,7 +1,7 @@
 -- `three_runs::met_run` meets its contract: its turns are those of a walk, by whether the sides meet. The measure is how many are left. Assumes nothing.
 use Prim.Native.Nat.{_-_, _<_}
 use native.Mathlib.Omega.{arith}
-use lib.ListN.{length, getD}
+use lib.ListN.{length}
 use borrow.Author.Needs.{needs}
 use Rattle.sums.specs.Sums.{threeStep}
 use Rattle.sums.proofs.Turns.{met-added, left-added, right-added}
@@ -89,7 +89,8 @@ loop-again c =
     let l = i .before in
     let a = start l .args in
     runs-more (start l .pre) (l .loop .inv) (omega arith)
-    (met-added threeStep (l .loop .sum) (a .ia .now) (a .va .now) (l .loop .u) (a .ib .now) (a .vb .now) (l .loop .v) (left-in i) (right-in i) (c .before .before .before .if1 .taken) (c .add-three .ensures))
+    (met-added threeStep (l .loop .sum) (a .ia .now) (a .va .now) (l .loop .u) (a .ib .now) (a .vb .now) (l .loop .v)
+    (left-in i) (right-in i) (c .before .before .before .if1 .taken) (c .add-three .ensures))
 
 mul-x-2 : tie.Need-mul-x-2 Inv-loop μ-loop
 mul-x-2 c =
@@ -123,7 +124,8 @@ loop-again-2 c =
     let l = i .before in
     let a = start l .args in
     runs-more (start l .pre) (l .loop .inv) (omega arith)
-    (left-added threeStep (l .loop .sum) (a .ia .now) (a .va .now) (l .loop .u) (a .ib .now) (a .vb .now) (l .loop .v) (left-in i) (right-in i) (c .before .before .if2 .taken) (c .add-three2 .ensures))
+    (left-added threeStep (l .loop .sum) (a .ia .now) (a .va .now) (l .loop .u) (a .ib .now) (a .vb .now) (l .loop .v)
+    (left-in i) (right-in i) (c .before .before .if2 .taken) (c .add-three2 .ensures))
 
 mul-y-2 : tie.Need-mul-y-2 Inv-loop μ-loop
 mul-y-2 c =
@@ -157,7 +159,8 @@ loop-again-3 c =
     let l = i .before in
     let a = start l .args in
     runs-more (start l .pre) (l .loop .inv) (omega arith)
-    (right-added threeStep (l .loop .sum) (a .ia .now) (a .va .now) (l .loop .u) (a .ib .now) (a .vb .now) (l .loop .v) (left-in i) (right-in i) (omega arith) (c .add-three3 .ensures))
+    (right-added threeStep (l .loop .sum) (a .ia .now) (a .va .now) (l .loop .u) (a .ib .now) (a .vb .now) (l .loop .v)
+    (left-in i) (right-in i) (omega arith) (c .add-three3 .ensures))
 
 returns : tie.Need-returns Inv-loop μ-loop
 returns c = ran (start (c .before) .pre) (c .before .loop .inv) (omega arith)
