@@ -160,13 +160,11 @@ pub fn lone_place(
     requires { ⌜ (p < length (now va)) × (q < length (now vb)) ⌝ }
     ensures { λ r. ⌜ r ≡ cond left (stepOf kind acc (Full (getD (now (va .entry)) p nan)) Empty) (stepOf kind acc Empty (Full (getD (now (vb .entry)) q nan))) ⌝ }
 {
-    match kind {
-        Kind::Product => acc,
-        Kind::Difference => {
-            let d = walks::pick(left, va, p, vb, q);
-            acc + d * d
-        }
+    if let Kind::Difference = kind {
+        let d = walks::pick(left, va, p, vb, q);
+        return acc + d * d;
     }
+    acc
 }
 
 // ---- the turns where one side has ended
