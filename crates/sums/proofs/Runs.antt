@@ -1,5 +1,5 @@
 -- Many turns of a sum, one after the other. Assumes nothing.
-use Prim.Native.Nat.{ℕ, _+_, _≤_, _<_}
+use Prim.Native.Nat.{ℕ, _+_, _^_, _≤_, _<_}
 use native.Mathlib.Numerals.{add-one}
 use native.Mathlib.Omega.{arith}
 use mathlib.Core.List.{List}
@@ -68,9 +68,14 @@ module _ {A : Type 0} {step : A → Cell → Cell → A} {k : ℕ} {acc : A} {is
 
 -- ---- a sum over two vectors that takes them
 
--- its entries are few
-pub few : {a b : Vector} → Ready a b → {p q : ℕ} → p ≤ size a → q ≤ size b → p + q ≤ 2097150
-few r l h = omega (arith, size-most (r .left), r .left .high, size-most (r .right), r .right .high)
+-- its entries are few: the numbers of those that it passed, and 104 more, are in the range of a usize
+pub few : {a b : Vector} → Ready a b → {p q : ℕ} → p ≤ size a → q ≤ size b → (p + q < 2 ^ 64) × (p + q + 104 < 2 ^ 64)
+few r l h =
+    let left = size-most (r .left) in
+    let right = size-most (r .right) in
+    let high = r .left .high in
+    let high′ = r .right .high in
+    (omega arith, omega arith)
 
 pub summing-added : {A : Type 0} {step : A → Cell → Cell → A} (still : (acc : A) → step acc Empty Empty ≡ acc) {start : A} {a b : Vector} (r : Ready a b)
     → a .dims ≡ b .dims → {p q : ℕ} {acc : A} → Summing step start a b p q acc → {sum : A} {u v : ℕ}

@@ -57,24 +57,20 @@ run-requires c κs =
 
 add-quick : tie.Need-add-quick Inv-loop μ-loop Inv-loop2 μ-loop2
 add-quick c =
-    let l = c .before .before .before .before .before .before in
-    let h = l .loop .inv .going .walk in
     let e = c .before .run .ensures in
-    omega (arith, few (start l .pre) (e .within) (e .within′), few (start l .pre) (h .left .within) (h .right .within))
+    record { fits = few (start (c .before .before .before .before .before .before) .pre) (e .within) (e .within′) .0 }
 
 add-quick-2 : tie.Need-add-quick-2 Inv-loop μ-loop Inv-loop2 μ-loop2
 add-quick-2 c =
     let l = c .before .before .before .before .before .before in
     let h = l .loop .inv .going .walk in
-    let e = c .before .run .ensures in
-    omega (arith, few (start l .pre) (e .within) (e .within′), few (start l .pre) (h .left .within) (h .right .within))
+    record { fits = few (start l .pre) (h .left .within) (h .right .within) .0 }
 
 add-quick-3 : tie.Need-add-quick-3 Inv-loop μ-loop Inv-loop2 μ-loop2
 add-quick-3 c =
     let l = c .before .before .before .before .before .before in
     let h = l .loop .inv .going .walk in
-    let e = c .before .run .ensures in
-    omega (arith, few (start l .pre) (e .within) (e .within′), few (start l .pre) (h .left .within) (h .right .within))
+    record { fits = few (start l .pre) (h .left .within) (h .right .within) .1 }
 
 loop-less : tie.Need-loop-less Inv-loop μ-loop Inv-loop2 μ-loop2
 loop-less c =
