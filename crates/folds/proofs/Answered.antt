@@ -14,7 +14,7 @@ use Rattle.refusal.proofs.Decides.{decided}
 use Rattle.folds.specs.Calls.{floatsOf, summedSays, summedOf}
 use Rattle.folds.specs.declared.Summed.{Summed}
 use Rattle.folds.specs.declared.Summed.the-variants.{Sums, Refused as NotSummed}
-use Rattle.folds.specs.declared.Three.{Three}
+use Rattle.sums.specs.declared.Three.{Three}
 
 pub value-told : (x y : Float) (due : Checked) → distanceOf x due ≡ Value y → (due ≡ Valid) × (y ≡ x)
 value-told x y Valid e = let same : y ≡ x = cc in (refl, same)

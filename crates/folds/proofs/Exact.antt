@@ -15,10 +15,10 @@ use Rattle.sparse.specs.Numbers.{Whole, numberAt}
 use Rattle.sparse.specs.declared.Cell.{Cell}
 use Rattle.sparse.specs.declared.Cell.the-variants.{Empty, Full}
 use Rattle.sparse.proofs.Numbers.{Passing, passing-at}
-use Rattle.folds.specs.Sums.{dense, stepOf, sumOf, dotOf}
+use Rattle.sums.specs.Sums.{dense, stepOf, sumOf, dotOf}
 use Rattle.folds.specs.Exact.{termOf, termAt, totalBelow, weightBelow}
-use Rattle.folds.specs.declared.Kind.{Kind}
-use Rattle.folds.specs.declared.Kind.the-variants.{Product, Difference}
+use Rattle.sums.specs.declared.Kind.{Kind}
+use Rattle.sums.specs.declared.Kind.the-variants.{Product, Difference}
 
 -- ---- what stands at a place of a vector of whole numbers
 

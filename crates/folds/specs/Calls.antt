@@ -7,10 +7,10 @@ use Rattle.refusal.specs.declared.Checked.the-variants.{Valid, Refused}
 use Rattle.refusal.specs.declared.Distance.{Distance}
 use Rattle.sparse.specs.Vectors.{Vector}
 use Rattle.sparse.specs.Calls.{pairOf}
-use Rattle.folds.specs.Sums.{sumOf, dotOf, threeOf}
-use Rattle.folds.specs.declared.Kind.{Kind}
-use Rattle.folds.specs.declared.Kind.the-variants.{Difference}
-use Rattle.folds.specs.declared.Three.{Three}
+use Rattle.sums.specs.Sums.{sumOf, dotOf, threeOf}
+use Rattle.sums.specs.declared.Kind.{Kind}
+use Rattle.sums.specs.declared.Kind.the-variants.{Difference}
+use Rattle.sums.specs.declared.Three.{Three}
 use Rattle.folds.specs.declared.Summed.{Summed}
 use Rattle.folds.specs.declared.Summed.the-variants.{Sums, Refused as NotSummed}
 

@@ -4,8 +4,8 @@ use Prim.Native.Nat.{ℕ, zero, suc, _+_}
 use lib.IntN.{ℤ, pos, natAbs, _+ℤ_, _-ℤ_, _*ℤ_}
 use Rattle.sparse.specs.Vectors.{Vector, at}
 use Rattle.sparse.specs.Numbers.{numberAt}
-use Rattle.folds.specs.declared.Kind.{Kind}
-use Rattle.folds.specs.declared.Kind.the-variants.{Product, Difference}
+use Rattle.sums.specs.declared.Kind.{Kind}
+use Rattle.sums.specs.declared.Kind.the-variants.{Product, Difference}
 
 -- what a place adds: a product, or a squared difference
 abbrev pub termOf : Kind → ℤ → ℤ → ℤ

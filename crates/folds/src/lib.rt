@@ -2,25 +2,13 @@
 
 use refusal::Checked;
 use refusal::Distance;
-use sparse::Cell;
+use sums::Kind;
+pub use sums::Three;
 ghost use mathlib.Core.Path.{_≡_};
 ghost use Rattle.sparse.specs.Vectors.{vector};
-ghost use Rattle.folds.specs.Sums.{productStep, differenceStep, squareStep, stepOf, sumOf, threeStep, threeOf};
+ghost use Rattle.sums.specs.Sums.{sumOf, threeOf};
+ghost use Rattle.sums.specs.Loops.{Ready};
 ghost use Rattle.folds.specs.Calls.{Distances, Dots, L2s, SumsThree};
-ghost use Rattle.folds.specs.Loops.{Ready};
-
-// What is added up: products of common entries, or squared differences.
-enum Kind {
-    Product,
-    Difference,
-}
-
-// The three sums of one walk.
-pub struct Three {
-    pub xy: f32,
-    pub x2: f32,
-    pub y2: f32,
-}
 
 // Three sums, or a refusal.
 pub enum Summed {
@@ -28,54 +16,8 @@ pub enum Summed {
     Refused(u32, usize),
 }
 
-// The sum with the product of one more place.
-fn add_product(acc: f32, x: Cell, y: Cell) -> f32
-    ensures { λ r. ⌜ r ≡ productStep acc x y ⌝ }
-{
-    match x {
-        Cell::Full(a) => match y {
-            Cell::Full(b) => acc + a * b,
-            Cell::Empty => acc,
-        },
-        Cell::Empty => acc,
-    }
-}
-
-// The sum with the squared difference of one more place.
-fn add_difference(acc: f32, x: Cell, y: Cell) -> f32
-    ensures { λ r. ⌜ r ≡ differenceStep acc x y ⌝ }
-{
-    match x {
-        Cell::Full(a) => match y {
-            Cell::Full(b) => {
-                let d = a - b;
-                acc + d * d
-            }
-            Cell::Empty => {
-                let d = a - 0.0;
-                acc + d * d
-            }
-        },
-        Cell::Empty => match y {
-            Cell::Full(b) => {
-                let d = 0.0 - b;
-                acc + d * d
-            }
-            Cell::Empty => acc,
-        },
-    }
-}
-
-fn add_place(kind: Kind, acc: f32, x: Cell, y: Cell) -> f32
-    ensures { λ r. ⌜ r ≡ stepOf kind acc x y ⌝ }
-{
-    match kind {
-        Kind::Product => add_product(acc, x, y),
-        Kind::Difference => add_difference(acc, x, y),
-    }
-}
-
-// The sum over two vectors of equal dims, in rising order.
+// The sum over two vectors of equal dims, in rising order. How far the last run came says how many of its turns met, and so which run
+// is the better one next.
 fn sum_of(kind: Kind, dims: u32, ia: &[u32], va: &[f32], ib: &[u32], vb: &[f32]) -> f32
     requires { ⌜ Ready (vector dims (now ia) (now va)) (vector dims (now ib) (now vb)) ⌝ }
     ensures { λ r. ⌜ r ≡ sumOf kind (vector dims (now (ia .entry)) (now (va .entry))) (vector dims (now (ib .entry)) (now (vb .entry))) ⌝ }
@@ -83,11 +25,18 @@ fn sum_of(kind: Kind, dims: u32, ia: &[u32], va: &[f32], ib: &[u32], vb: &[f32])
     let mut p: usize = 0;
     let mut q: usize = 0;
     let mut acc: f32 = 0.0;
+    let mut quick = true;
+    while p < ia.len() && q < ib.len() {
+        let k = walks::smaller(64, walks::smaller(ia.len() - p, ib.len() - q));
+        let s = sum_runs::run(kind, quick, k, acc, ia, va, p, ib, vb, q);
+        quick = s.p + s.q < p + q + 104;
+        acc = s.acc;
+        p = s.p;
+        q = s.q;
+    }
     while p + q < ia.len() + ib.len() {
-        let t = walks::one_turn(ia, va, p, ib, vb, q);
-        let x = t.x;
-        let y = t.y;
-        acc = add_place(kind, acc, x, y);
+        let t = sums::plain_turn(kind, acc, ia, va, p, ib, vb, q);
+        acc = t.acc;
         p = t.p;
         q = t.q;
     }
@@ -130,27 +79,6 @@ pub fn l2(dims_a: u32, ia: &[u32], va: &[f32], dims_b: u32, ib: &[u32], vb: &[f3
     distance(Kind::Difference, dims_a, ia, va, dims_b, ib, vb)
 }
 
-// A sum with the square of one more place.
-fn add_square(acc: f32, x: Cell) -> f32
-    ensures { λ r. ⌜ r ≡ squareStep acc x ⌝ }
-{
-    match x {
-        Cell::Full(a) => acc + a * a,
-        Cell::Empty => acc,
-    }
-}
-
-// The three sums with one more place.
-fn add_three(t: Three, x: Cell, y: Cell) -> Three
-    ensures { λ r. ⌜ r ≡ threeStep t x y ⌝ }
-{
-    Three {
-        xy: add_product(t.xy, x, y),
-        x2: add_square(t.x2, x),
-        y2: add_square(t.y2, y),
-    }
-}
-
 // The three sums over two vectors of equal dims.
 fn three_of(dims: u32, ia: &[u32], va: &[f32], ib: &[u32], vb: &[f32]) -> Three
     requires { ⌜ Ready (vector dims (now ia) (now va)) (vector dims (now ib) (now vb)) ⌝ }
@@ -158,20 +86,27 @@ fn three_of(dims: u32, ia: &[u32], va: &[f32], ib: &[u32], vb: &[f32]) -> Three
 {
     let mut p: usize = 0;
     let mut q: usize = 0;
-    let mut sums = Three {
+    let mut acc = Three {
         xy: 0.0,
         x2: 0.0,
         y2: 0.0,
     };
+    let mut quick = true;
+    while p < ia.len() && q < ib.len() {
+        let k = walks::smaller(64, walks::smaller(ia.len() - p, ib.len() - q));
+        let s = three_runs::run(quick, k, acc, ia, va, p, ib, vb, q);
+        quick = s.p + s.q < p + q + 104;
+        acc = s.acc;
+        p = s.p;
+        q = s.q;
+    }
     while p + q < ia.len() + ib.len() {
-        let t = walks::one_turn(ia, va, p, ib, vb, q);
-        let x = t.x;
-        let y = t.y;
-        sums = add_three(sums, x, y);
+        let t = sums::plain_three_turn(acc, ia, va, p, ib, vb, q);
+        acc = t.acc;
         p = t.p;
         q = t.q;
     }
-    sums
+    acc
 }
 
 // In one walk: the sum of the products of common entries, and the sums of the squares of either side.

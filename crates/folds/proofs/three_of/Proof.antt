@@ -1,54 +1,125 @@
--- `folds::three_of` meets its contract. The loop's invariant: the three sums are those of the places below the walk. The measure is the
--- number of entries left in both. Assumes nothing.
+-- `folds::three_of` meets its contract. Both loops' invariant: the sum is that of the places below the walk. The measure is the number of
+-- entries left in both. Assumes nothing.
 use Prim.Native.Nat.{_+_, _-_}
 use native.Mathlib.Omega.{arith}
 use mathlib.Core.Path.{refl}
 use lib.ListN.{length}
 use borrow.Author.Needs.{needs}
+use borrow.Author.Tests.{ltb-true}
 use Rattle.sparse.specs.Vectors.{vector}
 use Rattle.walks.proofs.Walk.{passed, standing}
-use Rattle.folds.specs.Sums.{threeStep, zeroThree}
-use Rattle.folds.proofs.Summing.{Summing, summing-start, summing-more, summing-end}
-use Rattle.folds.proofs.Still.{still-three}
+use Rattle.sums.specs.Sums.{threeStep, zeroThree}
+use Rattle.sums.proofs.Still.{still-three}
+use Rattle.sums.proofs.Summing.{Summing, summing-start, summing-end}
+use Rattle.sums.proofs.Runs.{few, summing-added, summing-chain, summing-running}
 use Rattle.folds.proofs.three_of.Statement.{statement}
 use Rattle.folds.proofs.three_of.Tie as tie
 
 abbrev Inv-loop : tie.InvT-loop
-Inv-loop dims ia va ib vb p₀ q₀ sums₀ p q sums = Summing threeStep zeroThree (vector dims ia va) (vector dims ib vb) p q sums
+Inv-loop dims ia va ib vb p₀ q₀ acc₀ quick₀ p q acc quick = Summing threeStep zeroThree (vector dims ia va) (vector dims ib vb) p q acc
 
 abbrev μ-loop : tie.MeasureT-loop
-μ-loop dims ia va ib vb p₀ q₀ sums₀ p q sums = length ia + length ib - (p + q)
+μ-loop dims ia va ib vb p₀ q₀ acc₀ quick₀ p q acc quick = length ia + length ib - (p + q)
 
-abbrev start : tie.At-loop Inv-loop μ-loop → tie.Start Inv-loop μ-loop
+abbrev Inv-loop2 : tie.InvT-loop2
+Inv-loop2 dims ia va ib vb p₀ q₀ acc₀ quick p q acc = Summing threeStep zeroThree (vector dims ia va) (vector dims ib vb) p q acc
+
+abbrev μ-loop2 : tie.MeasureT-loop2
+μ-loop2 dims ia va ib vb p₀ q₀ acc₀ quick p q acc = length ia + length ib - (p + q)
+
+abbrev start : tie.At-loop Inv-loop μ-loop Inv-loop2 μ-loop2 → tie.Start Inv-loop μ-loop Inv-loop2 μ-loop2
 start c = c .before .before .before .before .before
 
-loop-holds : tie.Need-loop-holds Inv-loop μ-loop
+loop-holds : tie.Need-loop-holds Inv-loop μ-loop Inv-loop2 μ-loop2
 loop-holds c = summing-start
 
-add-loop : tie.Need-add-loop Inv-loop μ-loop
-add-loop c = let h = passed (c .loop .inv .going) in search needs
+sub-smaller : tie.Need-sub-smaller Inv-loop μ-loop Inv-loop2 μ-loop2
+sub-smaller c = c .before .before .loop .inv .going .walk .left .within
 
-add-loop-2 : tie.Need-add-loop-2 Inv-loop μ-loop
-add-loop-2 c = search needs
+sub-smaller-2 : tie.Need-sub-smaller-2 Inv-loop μ-loop Inv-loop2 μ-loop2
+sub-smaller-2 c = c .before .before .loop .inv .going .walk .right .within
 
-one-turn-requires : tie.Need-one-turn-requires Inv-loop μ-loop
-one-turn-requires c κs =
-    let r = start (c .before) .pre in
-    standing (r .left) (r .right) (c .before .loop .inv .going) (omega arith)
+smaller-requires : tie.Need-smaller-requires Inv-loop μ-loop Inv-loop2 μ-loop2
+smaller-requires c κs = search needs
 
-add-three-requires : tie.Need-add-three-requires Inv-loop μ-loop
-add-three-requires c κs = search needs
+smaller-requires-2 : tie.Need-smaller-requires-2 Inv-loop μ-loop Inv-loop2 μ-loop2
+smaller-requires-2 c κs = search needs
 
-loop-less : tie.Need-loop-less Inv-loop μ-loop
-loop-less c = omega (arith, passed (c .before .before .before .loop .inv .going), c .before .one-turn .ensures .some)
+run-requires : tie.Need-run-requires Inv-loop μ-loop Inv-loop2 μ-loop2
+run-requires c κs =
+    let l = c .before .before .before .before in
+    let t = start l in
+    let h = l .loop .inv .going .walk in
+    let k = c .smaller2 .ensures in
+    let m = c .before .smaller .ensures in
+    summing-running still-three (t .pre) refl (l .loop .inv) (omega (arith, k, m, h .left .within)) (omega (arith, k, m, h .right .within))
 
-loop-again : tie.Need-loop-again Inv-loop μ-loop
+add-quick : tie.Need-add-quick Inv-loop μ-loop Inv-loop2 μ-loop2
+add-quick c =
+    let e = c .before .run .ensures in
+    record { fits = few (start (c .before .before .before .before .before .before) .pre) (e .within) (e .within′) .0 }
+
+add-quick-2 : tie.Need-add-quick-2 Inv-loop μ-loop Inv-loop2 μ-loop2
+add-quick-2 c =
+    let l = c .before .before .before .before .before .before in
+    let h = l .loop .inv .going .walk in
+    record { fits = few (start l .pre) (h .left .within) (h .right .within) .0 }
+
+add-quick-3 : tie.Need-add-quick-3 Inv-loop μ-loop Inv-loop2 μ-loop2
+add-quick-3 c =
+    let l = c .before .before .before .before .before .before in
+    let h = l .loop .inv .going .walk in
+    record { fits = few (start l .pre) (h .left .within) (h .right .within) .1 }
+
+loop-less : tie.Need-loop-less Inv-loop μ-loop Inv-loop2 μ-loop2
+loop-less c =
+    let r = c .before .before in
+    let l = r .before .before .before .before .before in
+    let a = start l .args in
+    let k = r .before .smaller2 .ensures in
+    let m = r .before .before .smaller .ensures in
+    let e = r .run .ensures in
+    omega (arith, e .passed, e .within, e .within′, k, m, ltb-true (l .loop .q) (length (a .ib .now)) (r .before .before .before .if1 .taken))
+
+loop-again : tie.Need-loop-again Inv-loop μ-loop Inv-loop2 μ-loop2
 loop-again c =
-    let l = c .before .before .before in
-    summing-more still-three (start l .pre) (l .loop .inv) refl (c .before .one-turn .ensures) (c .add-three .ensures)
+    let r = c .before .before in
+    let l = r .before .before .before .before .before in
+    let t = start l in
+    summing-chain still-three (t .pre) refl (l .loop .inv) (r .run .ensures .chain)
 
-returns : tie.Need-returns Inv-loop μ-loop
-returns c = let l = c .before in summing-end still-three (start l .pre) (l .loop .inv) (omega arith)
+loop2-holds : tie.Need-loop2-holds Inv-loop μ-loop Inv-loop2 μ-loop2
+loop2-holds c = c .before .loop .inv
+
+add-loop2 : tie.Need-add-loop2 Inv-loop μ-loop Inv-loop2 μ-loop2
+add-loop2 c = let h = passed (c .loop2 .inv .going) in search needs
+
+add-loop2-2 : tie.Need-add-loop2-2 Inv-loop μ-loop Inv-loop2 μ-loop2
+add-loop2-2 c = search needs
+
+plain-three-turn-requires : tie.Need-plain-three-turn-requires Inv-loop μ-loop Inv-loop2 μ-loop2
+plain-three-turn-requires c κs =
+    let l = c .before in
+    let r = start (l .before .before) .pre in
+    standing (r .left) (r .right) (l .loop2 .inv .going) (omega arith)
+
+loop2-less : tie.Need-loop2-less Inv-loop μ-loop Inv-loop2 μ-loop2
+loop2-less c =
+    let s = c .before .plain-three-turn .ensures in
+    let l = c .before .before .before in
+    omega (arith, passed (l .loop2 .inv .going), s .turned .some, s .left, s .right)
+
+loop2-again : tie.Need-loop2-again Inv-loop μ-loop Inv-loop2 μ-loop2
+loop2-again c =
+    let l = c .before .before .before in
+    let t = start (l .before .before) in
+    summing-added still-three (t .pre) refl (l .loop2 .inv) (c .before .plain-three-turn .ensures)
+
+returns : tie.Need-returns Inv-loop μ-loop Inv-loop2 μ-loop2
+returns c =
+    let l = c .before in
+    let t = start (l .before .before) in
+    summing-end still-three (t .pre) (l .loop2 .inv) (omega arith)
 
 pub three-of-spec : {M : Type 1} → statement M
 three-of-spec =
@@ -56,11 +127,23 @@ three-of-spec =
     (tie.spec
     Inv-loop
     μ-loop
+    Inv-loop2
+    μ-loop2
     loop-holds
-    add-loop
-    add-loop-2
-    one-turn-requires
-    add-three-requires
+    sub-smaller
+    sub-smaller-2
+    smaller-requires
+    smaller-requires-2
+    run-requires
+    add-quick
+    add-quick-2
+    add-quick-3
     loop-less
     loop-again
+    loop2-holds
+    add-loop2
+    add-loop2-2
+    plain-three-turn-requires
+    loop2-less
+    loop2-again
     returns)

@@ -1,7 +1,7 @@
--- `folds::add_place` meets its contract, kind by kind. Assumes nothing.
+-- `sums::add_place` meets its contract, kind by kind. Assumes nothing.
 use borrow.Author.Needs.{needs}
-use Rattle.folds.proofs.add_place.Statement.{statement}
-use Rattle.folds.proofs.add_place.Tie as tie
+use Rattle.sums.proofs.add_place.Statement.{statement}
+use Rattle.sums.proofs.add_place.Tie as tie
 
 enum-told : tie.Need-enum-told
 enum-told c = search needs

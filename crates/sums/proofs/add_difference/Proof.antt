@@ -1,7 +1,7 @@
--- `folds::add_difference` meets its contract, case by case. Assumes nothing.
+-- `sums::add_difference` meets its contract, case by case. Assumes nothing.
 use borrow.Author.Needs.{needs}
-use Rattle.folds.proofs.add_difference.Statement.{statement}
-use Rattle.folds.proofs.add_difference.Tie as tie
+use Rattle.sums.proofs.add_difference.Statement.{statement}
+use Rattle.sums.proofs.add_difference.Tie as tie
 
 enum-known-x : tie.Need-enum-known-x
 enum-known-x c = search needs

@@ -5,9 +5,9 @@ use Rattle.sparse.specs.Cells.{zero32, foldBelow}
 use Rattle.sparse.specs.Vectors.{Vector, at}
 use Rattle.sparse.specs.declared.Cell.{Cell}
 use Rattle.sparse.specs.declared.Cell.the-variants.{Empty, Full}
-use Rattle.folds.specs.declared.Three.{Three}
-use Rattle.folds.specs.declared.Kind.{Kind}
-use Rattle.folds.specs.declared.Kind.the-variants.{Product, Difference}
+use Rattle.sums.specs.declared.Three.{Three}
+use Rattle.sums.specs.declared.Kind.{Kind}
+use Rattle.sums.specs.declared.Kind.the-variants.{Product, Difference}
 
 -- "add the products of common indexes"
 abbrev pub productStep : Float → Cell → Cell → Float

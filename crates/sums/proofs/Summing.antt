@@ -8,7 +8,7 @@ use Rattle.sparse.specs.declared.Cell.the-variants.{Empty}
 use Rattle.walks.specs.Walk.{Turned}
 use Rattle.walks.specs.declared.Turn.{Turn}
 use Rattle.walks.proofs.Walk.{Quiet, Going, going-start, going-more, going-end, left-cell, right-cell, place-below}
-use Rattle.folds.specs.Loops.{Ready}
+use Rattle.sums.specs.Loops.{Ready}
 
 -- the sum so far is that of the places below the one where the walk stands
 pub record Summing {A : Type 0} (step : A → Cell → Cell → A) (start : A) (a b : Vector) (p q : ℕ) (acc : A) : Type 0 where

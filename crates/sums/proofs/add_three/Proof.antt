@@ -1,7 +1,7 @@
--- `folds::add_three` meets its contract: each of the three sums takes its step. Assumes nothing.
+-- `sums::add_three` meets its contract: each of the three sums takes its step. Assumes nothing.
 use borrow.Author.Needs.{needs}
-use Rattle.folds.proofs.add_three.Statement.{statement}
-use Rattle.folds.proofs.add_three.Tie as tie
+use Rattle.sums.proofs.add_three.Statement.{statement}
+use Rattle.sums.proofs.add_three.Tie as tie
 
 add-product-requires : tie.Need-add-product-requires
 add-product-requires c κs = search needs

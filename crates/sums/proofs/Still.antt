@@ -2,10 +2,10 @@
 use mathlib.Core.Path.{_≡_, refl}
 use lib.Ieee.{Float}
 use Rattle.sparse.specs.declared.Cell.the-variants.{Empty}
-use Rattle.folds.specs.Sums.{stepOf, threeStep}
-use Rattle.folds.specs.declared.Kind.{Kind}
-use Rattle.folds.specs.declared.Kind.the-variants.{Product, Difference}
-use Rattle.folds.specs.declared.Three.{Three}
+use Rattle.sums.specs.Sums.{stepOf, threeStep}
+use Rattle.sums.specs.declared.Kind.{Kind}
+use Rattle.sums.specs.declared.Kind.the-variants.{Product, Difference}
+use Rattle.sums.specs.declared.Three.{Three}
 
 pub still : (kind : Kind) (acc : Float) → stepOf kind acc Empty Empty ≡ acc
 still Product acc = refl

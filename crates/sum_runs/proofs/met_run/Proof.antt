@@ -1,0 +1,170 @@
+-- `sum_runs::met_run` meets its contract: its turns are those of a walk, by whether the sides meet. The measure is how many are left. Assumes nothing.
+use Prim.Native.Nat.{_-_, _<_}
+use native.Mathlib.Omega.{arith}
+use lib.Dec.{ltb}
+use lib.ListN.{length, getD}
+use borrow.Author.Needs.{needs}
+use Rattle.walks.proofs.Choices.{byte-most}
+use Rattle.sums.specs.Sums.{stepOf}
+use Rattle.sums.proofs.Turns.{met-added, lone-added}
+use Rattle.sums.proofs.Runs.{Runs, runs-start, runs-left, runs-right, runs-more, ran}
+use Rattle.sum_runs.proofs.met_run.Statement.{statement}
+use Rattle.sum_runs.proofs.met_run.Tie as tie
+
+abbrev Inv-loop : tie.InvT-loop
+Inv-loop kind k acc ia va p ib vb q u₀ v₀ sum₀ taken₀ u v sum taken = Runs (stepOf kind) k acc ia va p ib vb q u v sum taken
+
+abbrev μ-loop : tie.MeasureT-loop
+μ-loop kind k acc ia va p ib vb q u₀ v₀ sum₀ taken₀ u v sum taken = k - taken
+
+abbrev start : tie.At-loop Inv-loop μ-loop → tie.Start Inv-loop μ-loop
+start c = c .before .before .before .before .before
+
+-- both sides have an entry left
+left-in : (c : tie.In-loop Inv-loop μ-loop) → c .before .loop .u < length (start (c .before) .args .ia .now)
+left-in c = runs-left (start (c .before) .pre) (c .before .loop .inv) (omega arith)
+
+right-in : (c : tie.In-loop Inv-loop μ-loop) → c .before .loop .v < length (start (c .before) .args .ib .now)
+right-in c = runs-right (start (c .before) .pre) (c .before .loop .inv) (omega arith)
+
+loop-holds : tie.Need-loop-holds Inv-loop μ-loop
+loop-holds c = runs-start
+
+mul-i : tie.Need-mul-i Inv-loop μ-loop
+mul-i c = let h = left-in c in search needs
+
+shared-slice-read-i : tie.Need-shared-slice-read-i Inv-loop μ-loop
+shared-slice-read-i c = let h = left-in (c .before) in search needs
+
+mul-j : tie.Need-mul-j Inv-loop μ-loop
+mul-j c = let h = right-in (c .before) in search needs
+
+shared-slice-read-j : tie.Need-shared-slice-read-j Inv-loop μ-loop
+shared-slice-read-j c = let h = right-in (c .before .before) in search needs
+
+mul-x : tie.Need-mul-x Inv-loop μ-loop
+mul-x c =
+    let i = c .before .before .before in
+    let h = left-in i in
+    let e = start (i .before) .pre .even in
+    search needs
+
+shared-slice-read-x : tie.Need-shared-slice-read-x Inv-loop μ-loop
+shared-slice-read-x c =
+    let i = c .before .before .before .before in
+    let h = left-in i in
+    let e = start (i .before) .pre .even in
+    search needs
+
+mul-y : tie.Need-mul-y Inv-loop μ-loop
+mul-y c =
+    let i = c .before .before .before .before in
+    let h = right-in i in
+    let e = start (i .before) .pre .even′ in
+    search needs
+
+shared-slice-read-y : tie.Need-shared-slice-read-y Inv-loop μ-loop
+shared-slice-read-y c =
+    let i = c .before .before .before .before .before in
+    let h = right-in i in
+    let e = start (i .before) .pre .even′ in
+    search needs
+
+add-place-requires : tie.Need-add-place-requires Inv-loop μ-loop
+add-place-requires c κs = search needs
+
+add-u : tie.Need-add-u Inv-loop μ-loop
+add-u c = let h = left-in (c .before .before .before .before .before .before) in search needs
+
+add-v : tie.Need-add-v Inv-loop μ-loop
+add-v c = let h = right-in (c .before .before .before .before .before .before) in search needs
+
+add-taken : tie.Need-add-taken Inv-loop μ-loop
+add-taken c = let l = c .before .before .before .before .before .before .before in omega (arith, start l .pre .left, start l .pre .most)
+
+loop-less : tie.Need-loop-less Inv-loop μ-loop
+loop-less c = omega arith
+
+loop-again : tie.Need-loop-again Inv-loop μ-loop
+loop-again c =
+    let i = c .before .before .before .before .before .before in
+    let l = i .before in
+    let a = start l .args in
+    runs-more (start l .pre) (l .loop .inv) (omega arith)
+    (met-added (stepOf (a .kind)) (l .loop .sum) (a .ia .now) (a .va .now) (l .loop .u) (a .ib .now) (a .vb .now) (l .loop .v)
+    (left-in i) (right-in i) (c .before .before .before .if1 .taken) (c .add-place .ensures))
+
+lone-place-requires : tie.Need-lone-place-requires Inv-loop μ-loop
+lone-place-requires c κs =
+    let i = c .before .before .before in
+    let r = start (i .before) .pre in
+    (omega (arith, left-in i, r .even), omega (arith, right-in i, r .even′))
+
+cast-u : tie.Need-cast-u Inv-loop μ-loop
+cast-u c = search needs
+
+add-u-2 : tie.Need-add-u-2 Inv-loop μ-loop
+add-u-2 c =
+    let i = c .before .before .before .before in
+    let l = i .before in
+    let a = start l .args in
+    omega (arith, left-in i, start l .pre .most, byte-most (ltb (getD (a .ia .now) (l .loop .u) 0) (getD (a .ib .now) (l .loop .v) 0)))
+
+cast-v : tie.Need-cast-v Inv-loop μ-loop
+cast-v c = search needs
+
+add-v-2 : tie.Need-add-v-2 Inv-loop μ-loop
+add-v-2 c =
+    let i = c .before .before .before .before in
+    let l = i .before in
+    let a = start l .args in
+    omega (arith, right-in i, start l .pre .most′, byte-most (ltb (getD (a .ib .now) (l .loop .v) 0) (getD (a .ia .now) (l .loop .u) 0)))
+
+add-taken-2 : tie.Need-add-taken-2 Inv-loop μ-loop
+add-taken-2 c = let l = c .before .before .before .before .before in omega (arith, start l .pre .left, start l .pre .most)
+
+loop-less-2 : tie.Need-loop-less-2 Inv-loop μ-loop
+loop-less-2 c = omega arith
+
+loop-again-2 : tie.Need-loop-again-2 Inv-loop μ-loop
+loop-again-2 c =
+    let i = c .before .before .before .before in
+    let l = i .before in
+    let a = start l .args in
+    runs-more (start l .pre) (l .loop .inv) (omega arith)
+    (lone-added (stepOf (a .kind)) (l .loop .sum) (a .ia .now) (a .va .now) (l .loop .u) (a .ib .now) (a .vb .now) (l .loop .v)
+    (left-in i) (right-in i) (c .before .if1 .left) (c .lone-place .ensures))
+
+returns : tie.Need-returns Inv-loop μ-loop
+returns c = ran (start (c .before) .pre) (c .before .loop .inv) (omega arith)
+
+pub met-run-spec : {M : Type 1} → statement M
+met-run-spec =
+    tie.close
+    (tie.spec
+    Inv-loop
+    μ-loop
+    loop-holds
+    mul-i
+    shared-slice-read-i
+    mul-j
+    shared-slice-read-j
+    mul-x
+    shared-slice-read-x
+    mul-y
+    shared-slice-read-y
+    add-place-requires
+    add-u
+    add-v
+    add-taken
+    loop-less
+    loop-again
+    lone-place-requires
+    cast-u
+    add-u-2
+    cast-v
+    add-v-2
+    add-taken-2
+    loop-less-2
+    loop-again-2
+    returns)

@@ -1,0 +1,3 @@
+-- The definitions that the contracts of `sums` cite.
+pub mod Sums
+pub mod Loops
