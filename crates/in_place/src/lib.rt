@@ -59,7 +59,8 @@ fn shift(si: &mut [u32], sv: &mut [f32], low: usize, len: usize, gap: usize)
 }
 
 // Merges a row with the entries of a state: the first `low` lie below the row and stand in front, the
-// others stand from `gap + low` up to `cap`. The answer stands in front. After each turn comes a stride of many.
+// others stand from `gap + low` up to `cap`. The answer stands in front. After each turn comes a stride. What is faster
+// goes by how many of the state's entries there are for one of the row: more than 4 (`long`), or more than 32 (`far`).
 fn merge_up(
     dims: u32,
     si: &mut [u32],

@@ -151,8 +151,8 @@ fn run(
     }
 }
 
-// Some turns of a merge, or none. Where the state is longer than the row, or the row has ended, all its entries before
-// the row's next one are copied. Else it is up to 63 turns of which none can be foreseen.
+// Some turns of a merge, or none. Where the state is longer than the row, or the row has ended, all of its entries before
+// the row's next one are copied. Else up to 63 turns are taken, since which side is next cannot be foreseen.
 pub fn any_stride(
     long: bool,
     far: bool,

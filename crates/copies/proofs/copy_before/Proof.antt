@@ -1,6 +1,6 @@
 -- `copies::copy_before` meets its contract: either way the entries before the row's next one are copied. Assumes nothing.
-use Rattle.copies.proofs.Copies.{copied-found}
 use borrow.Author.Needs.{needs}
+use Rattle.copies.proofs.Copies.{copied-found}
 use Rattle.copies.proofs.copy_before.Statement.{statement}
 use Rattle.copies.proofs.copy_before.Tie as tie
 

@@ -2,11 +2,11 @@
 -- is how many are left up to cap. Assumes nothing.
 use Prim.Native.Nat.{_+_, _-_}
 use native.Mathlib.Omega.{arith}
-use Rattle.copies.specs.Copies.{Copied}
-use Rattle.copies.proofs.Copies.{copied-start, copied-next, copied-lengths}
 use mathlib.Core.Path.{_≡_}
 use lib.ListN.{length}
 use borrow.Author.Needs.{needs}
+use Rattle.copies.specs.Copies.{Copied}
+use Rattle.copies.proofs.Copies.{copied-start, copied-next, copied-lengths}
 use Rattle.copies.proofs.copy_below.Statement.{statement}
 use Rattle.copies.proofs.copy_below.Tie as tie
 

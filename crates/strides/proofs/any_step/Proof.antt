@@ -3,8 +3,8 @@ use native.Mathlib.Omega.{arith}
 use lib.ListN.{getD}
 use lib.Ieee.{add, binary32, nan}
 use borrow.Author.Tests.{not-true}
-use Rattle.sparse.specs.Cells.{isZero}
 use borrow.Author.Needs.{needs}
+use Rattle.sparse.specs.Cells.{isZero}
 use Rattle.strides.proofs.any_step.Statement.{statement}
 use Rattle.strides.proofs.any_step.Tie as tie
 

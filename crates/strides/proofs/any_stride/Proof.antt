@@ -1,7 +1,6 @@
 -- `strides::any_stride` meets its contract: copies are turns, and a run is a chain of them. Assumes nothing.
-use native.Mathlib.Omega.{arith}
-use Rattle.strides.proofs.Copies.{copied-turns}
 use borrow.Author.Needs.{needs}
+use Rattle.strides.proofs.Copies.{copied-turns}
 use Rattle.strides.proofs.any_stride.Statement.{statement}
 use Rattle.strides.proofs.any_stride.Tie as tie
 

@@ -2,10 +2,10 @@
 use Prim.Native.Nat.{_-_}
 use native.Mathlib.Omega.{arith}
 use mathlib.Core.Path.{refl}
+use borrow.Author.Needs.{needs}
 use Rattle.regions.specs.Regions.{part}
 use Rattle.regions.proofs.Stands.{part-length}
 use Rattle.strides.proofs.Steps.{taken-most}
-use borrow.Author.Needs.{needs}
 use Rattle.strides.proofs.plain_step.Statement.{statement}
 use Rattle.strides.proofs.plain_step.Tie as tie
 

@@ -2,8 +2,8 @@
 -- many are left. Assumes nothing.
 use Prim.Native.Nat.{_-_}
 use native.Mathlib.Omega.{arith}
-use Rattle.strides.proofs.Chains.{Runs, runs-start, runs-meeting, runs-more}
 use borrow.Author.Needs.{needs}
+use Rattle.strides.proofs.Chains.{Runs, runs-start, runs-meeting, runs-more}
 use Rattle.strides.proofs.run.Statement.{statement}
 use Rattle.strides.proofs.run.Tie as tie
 

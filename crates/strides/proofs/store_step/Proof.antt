@@ -1,9 +1,9 @@
 -- `strides::store_step` meets its contract: whichever side is next, its entry is stored, and its side has passed it. Assumes nothing.
 use lib.Dec.{leb}
 use lib.ListN.{getD}
+use borrow.Author.Needs.{needs}
 use Rattle.walks.proofs.Choices.{byte-most}
 use Rattle.strides.proofs.Steps.{stored}
-use borrow.Author.Needs.{needs}
 use Rattle.strides.proofs.store_step.Statement.{statement}
 use Rattle.strides.proofs.store_step.Tie as tie
 
