@@ -31,7 +31,7 @@ plain-step-requires : tie.Need-plain-step-requires Inv-loop μ-loop
 plain-step-requires c κs = let l = c .before .before .before in runs-steady (start l .pre) (l .loop .inv) (omega arith)
 
 add-taken : tie.Need-add-taken Inv-loop μ-loop
-add-taken c = 
+add-taken c =
     let l = c .before .before .before .before .before .before .before .before in
     let w = l .loop .inv .here in
     omega (arith, l .loop .inv .passed, w .left, w .right, w .most, w .most′)

@@ -19,7 +19,7 @@ loop-holds : tie.Need-loop-holds Inv-loop μ-loop
 loop-holds c = runs-start (c .before .before .before .before .before .before .pre)
 
 met-step-requires : tie.Need-met-step-requires Inv-loop μ-loop
-met-step-requires c κs = 
+met-step-requires c κs =
     let l = c .before .before .before in
     let r = start l .pre in
     let g = runs-left r (l .loop .inv) (omega arith) in

@@ -54,13 +54,14 @@ returns : tie.Need-returns Inv-loop μ-loop
 returns c = let l = c .before .before .before .before .before in ran (start l .pre) (l .loop .inv)
 
 store-step-requires : tie.Need-store-step-requires Inv-loop μ-loop
-store-step-requires c κs = 
+store-step-requires c κs =
     let i = c .before .before in
     let l = i .before .before .before .before .before in
     let r = start l .pre in
-    let g = runs-left r (l .loop .inv) (omega arith) in
-    (runs-steady r (l .loop .inv) (omega (arith, g .0, g .1)),
-    record { left = g .0; right = g .1; some = λ e. rw (← i .before .met .ensures) (i .if1 .left) })
+    let g = runs-left r (l .loop .inv) (omega arith) in (
+      runs-steady r (l .loop .inv) (omega (arith, g .0, g .1)),
+      record { left = g .0; right = g .1; some = λ e. rw (← i .before .met .ensures) (i .if1 .left) },
+    )
 
 add-taken : tie.Need-add-taken Inv-loop μ-loop
 add-taken c = let r = start (c .before .before .before .before .before .before .before .before .before .before .before .before) .pre in omega (arith, r .left, r .most)

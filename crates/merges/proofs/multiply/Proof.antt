@@ -41,12 +41,14 @@ mul-step-requires c κs =
     let r = start l .pre in
     let m = l .loop .inv in
     let e = lengths r m in
-    let h = more t in
-    (record {
-      standing = standing (r .left) (r .right) (m .going) (omega (arith, h .0, h .1));
-      room = omega (arith, m .few, m .few′, r .room, e .0, h .0, h .1);
-      room′ = omega (arith, m .few, m .few′, r .room′, e .1, h .0, h .1);
-    }, h)
+    let h = more t in (
+      record {
+        standing = standing (r .left) (r .right) (m .going) (omega (arith, h .0, h .1));
+        room = omega (arith, m .few, m .few′, r .room, e .0, h .0, h .1);
+        room′ = omega (arith, m .few, m .few′, r .room′, e .1, h .0, h .1);
+      },
+      h,
+    )
 
 add-turns : tie.Need-add-turns Inv-loop μ-loop
 add-turns c =
