@@ -2,7 +2,7 @@
 
 use sparse::Cell;
 ghost use mathlib.Core.Path.{_≡_};
-ghost use Prim.Native.Nat.{_+_, _<_, min};
+ghost use Prim.Native.Nat.{_+_, _≤_, _<_, min};
 ghost use mathlib.Core.Bool.{cond};
 ghost use lib.Dec.{ltb, eqb};
 ghost use lib.Ieee.{nan};
@@ -166,6 +166,31 @@ pub fn pick(left: bool, x: &[f32], p: usize, y: &[f32], q: usize) -> f32
 {
     let v = if left { &x[p] } else { &y[q] };
     *v
+}
+
+// How the next turns of a walk over two vectors are best taken. With branches on which side is next, if that can be
+// foreseen, since one side has nearly all entries; without, if it cannot; or with one branch on whether the sides meet.
+pub enum Way {
+    Plain,
+    Quick,
+    Meeting,
+}
+
+// The way to go on after up to 64 turns that passed so many entries of either side. Turns that meet pass two. Any
+// answer is right, and one is fast.
+pub fn way_on(left: usize, right: usize) -> Way
+    requires { ⌜ (left ≤ 1048575) × (right ≤ 1048575) ⌝ }
+{
+    if left < 14 {
+        return Way::Plain;
+    }
+    if right < 14 {
+        return Way::Plain;
+    }
+    if left + right < 104 {
+        return Way::Quick;
+    }
+    Way::Meeting
 }
 
 // The smaller of two lengths.
