@@ -10,7 +10,7 @@ use Rattle.sparse.specs.declared.Cell.{Cell}
 use Rattle.walks.proofs.Stores.{put-most}
 use Rattle.steps.specs.Turns.{Steady, Stepped, step, Chain, none, more}
 use Rattle.steps.specs.declared.Step.{Step}
-use Rattle.steps.proofs.Turning.{index-length, value-length, left-within, right-within, passes}
+use Rattle.steps.proofs.Turning.{index-length, value-length, left-within, right-within, left-on, right-on, passes}
 use Rattle.merge_runs.specs.Runs.{Running, Ran}
 use Rattle.merge_runs.specs.declared.Block.{Block}
 
@@ -102,6 +102,8 @@ module _ {join : Cell → Cell → Cell} {is : List ℕ} {vs : List Float} {p : 
     ran =
         record {
           chain = g .chain;
+          left = omega (arith, g .passed, g .right);
+          right = omega (arith, g .passed, g .left);
           within = omega (arith, g .here .left);
           within′ = omega (arith, g .here .right);
           passed = g .passed;
@@ -137,6 +139,8 @@ module _ {join : Cell → Cell → Cell} {is : List ℕ} {vs : List Float} {p : 
   ran-then g =
       record {
         chain = rw add-one (chain-then t (g .chain));
+        left = omega (arith, g .left, left-on t);
+        right = omega (arith, g .right, right-on t);
         within = g .within;
         within′ = g .within′;
         passed = omega (arith, g .passed, passes t);

@@ -25,6 +25,8 @@ pub record Running (k : ℕ) (is : List ℕ) (vs : List Float) (p : ℕ) (js : L
 pub record Ran (join : Cell → Cell → Cell) (is : List ℕ) (vs : List Float) (p : ℕ) (js : List ℕ) (ws : List Float) (q n : ℕ) (oi : List ℕ)
     (ov : List Float) (r : Block) (oi′ : List ℕ) (ov′ : List Float) : Type 0 where
   pub chain : Chain join is vs js ws (r .turns) (step p q n) oi ov (step (r .p) (r .q) (r .n)) oi′ ov′
+  pub left : p ≤ r .p
+  pub right : q ≤ r .q
   pub within : r .p ≤ length is
   pub within′ : r .q ≤ length js
   pub passed : p + q + r .turns ≤ r .p + r .q

@@ -2,6 +2,7 @@
 // its own for each way to take a turn, without an end of a side tested inside, is fast. For the crates
 // above, not for users.
 
+use walks::Way;
 ghost use Prim.Native.Nat.{_+_, _≤_, _<_};
 ghost use lib.ListN.{length};
 ghost use Rattle.steps.specs.Turns.{sumOf};
@@ -97,10 +98,9 @@ fn met_run(
     }
 }
 
-// A run of one kind or the other.
-fn either_run(
+// So many turns with branches on which side is next, for sides of which one has nearly all entries.
+fn plain_run(
     negate: bool,
-    quick: bool,
     k: usize,
     ia: &[u32],
     va: &[f32],
@@ -115,16 +115,56 @@ fn either_run(
     requires { ⌜ Running k (now ia) (now va) p (now ib) (now vb) q n (now oi) (now ov) ⌝ }
     ensures { λ r. ⌜ Ran (sumOf negate) (now (ia .entry)) (now (va .entry)) p (now (ib .entry)) (now (vb .entry)) q n (now (oi .entry)) (now (ov .entry)) r (now (oi .exit)) (now (ov .exit)) ⌝ }
 {
-    if quick {
+    let mut u = p;
+    let mut v = q;
+    let mut m = n;
+    let mut taken: usize = 0;
+    while taken < k {
+        let s = steps::plain_step(negate, ia, va, u, ib, vb, v, oi, ov, m);
+        u = s.p;
+        v = s.q;
+        m = s.n;
+        taken += 1;
+    }
+    Block {
+        p: u,
+        q: v,
+        n: m,
+        turns: taken,
+    }
+}
+
+// A run by one way or another.
+fn run(
+    negate: bool,
+    way: Way,
+    k: usize,
+    ia: &[u32],
+    va: &[f32],
+    p: usize,
+    ib: &[u32],
+    vb: &[f32],
+    q: usize,
+    oi: &mut [u32],
+    ov: &mut [f32],
+    n: usize,
+) -> Block
+    requires { ⌜ Running k (now ia) (now va) p (now ib) (now vb) q n (now oi) (now ov) ⌝ }
+    ensures { λ r. ⌜ Ran (sumOf negate) (now (ia .entry)) (now (va .entry)) p (now (ib .entry)) (now (vb .entry)) q n (now (oi .entry)) (now (ov .entry)) r (now (oi .exit)) (now (ov .exit)) ⌝ }
+{
+    if let Way::Quick = way {
         return quick_run(negate, k, ia, va, p, ib, vb, q, oi, ov, n);
     }
-    met_run(negate, k, ia, va, p, ib, vb, q, oi, ov, n)
+    if let Way::Meeting = way {
+        return met_run(negate, k, ia, va, p, ib, vb, q, oi, ov, n);
+    }
+    plain_run(negate, k, ia, va, p, ib, vb, q, oi, ov, n)
 }
 
 // A turn, and a run of up to 63 more.
 pub fn any_run(
     negate: bool,
-    quick: bool,
+    way: Way,
     ia: &[u32],
     va: &[f32],
     p: usize,
@@ -142,7 +182,7 @@ pub fn any_run(
     let s = steps::met_step(negate, ia, va, p, ib, vb, q, oi, ov, n);
     let left = walks::smaller(ia.len() - s.p, ib.len() - s.q);
     let k = walks::smaller(63, left);
-    let r = either_run(negate, quick, k, ia, va, s.p, ib, vb, s.q, oi, ov, s.n);
+    let r = run(negate, way, k, ia, va, s.p, ib, vb, s.q, oi, ov, s.n);
     Block {
         p: r.p,
         q: r.q,

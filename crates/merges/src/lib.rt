@@ -3,6 +3,7 @@
 
 use refusal::Checked;
 use refusal::Merged;
+use walks::Way;
 ghost use mathlib.Core.Path.{_≡_};
 ghost use Prim.Native.Nat.{_+_, _≤_, min};
 ghost use lib.ListN.{length};
@@ -25,8 +26,8 @@ pub struct Both {
     pub turns: usize,
 }
 
-// Writes the sum or the difference of two vectors of equal dims, walking over both to the end of both. How many of the
-// last turns met in one place says which run is the better one next.
+// Writes the sum or the difference of two vectors of equal dims, walking over both to the end of both. How many
+// entries of either side the last turns passed says by which way to go on.
 fn merge(
     negate: bool,
     dims: u32,
@@ -44,10 +45,10 @@ fn merge(
     let mut q: usize = 0;
     let mut n: usize = 0;
     let mut turns: usize = 0;
-    let mut quick = true;
+    let mut way = Way::Quick;
     while p < ia.len() && q < ib.len() {
-        let r = merge_runs::any_run(negate, quick, ia, va, p, ib, vb, q, oi, ov, n);
-        quick = r.p + r.q < p + q + 104;
+        let r = merge_runs::any_run(negate, way, ia, va, p, ib, vb, q, oi, ov, n);
+        way = walks::way_on(r.p - p, r.q - q);
         p = r.p;
         q = r.q;
         n = r.n;

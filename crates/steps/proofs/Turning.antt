@@ -137,6 +137,9 @@ taken-within : (is : List ℕ) (vs : List Float) (p k : ℕ) (x : Cell) (p′ : 
 taken-within is vs p k x p′ h t =
     ⊎-elim (λ e. (omega (arith, e .0, e .3), omega (arith, e .3))) (λ e. (omega (arith, e .2), omega (arith, e .2))) t
 
+taken-on : (is : List ℕ) (vs : List Float) (p k : ℕ) (x : Cell) (p′ : ℕ) → Taken is vs p k x p′ → p ≤ p′
+taken-on is vs p k x p′ t = ⊎-elim (λ e. omega (arith, e .3)) (λ e. omega (arith, e .2)) t
+
 put-index-length : (z : Cell) (l : List ℕ) (n k : ℕ) → length (putIndex z l n k) ≡ length l
 put-index-length Empty l n k = refl
 put-index-length (Full v) l n k = length-set l n k
@@ -158,6 +161,12 @@ module _ {join : Cell → Cell → Cell} {is : List ℕ} {vs : List Float} {p : 
 
   pub right-within : q ≤ length js → (r .q ≤ length js) × (r .q ≤ q + 1)
   right-within h = rw (s .right) (taken-within js ws q (s .turn .place) (s .turn .y) (s .turn .q) h (s .turned .right))
+
+  pub left-on : p ≤ r .p
+  left-on = rw (s .left) (taken-on is vs p (s .turn .place) (s .turn .x) (s .turn .p) (s .turned .left))
+
+  pub right-on : q ≤ r .q
+  right-on = rw (s .right) (taken-on js ws q (s .turn .place) (s .turn .y) (s .turn .q) (s .turned .right))
 
   pub passes : p + q < r .p + r .q
   passes = omega (arith, s .turned .some, s .left, s .right)

@@ -24,8 +24,8 @@ smaller-requires c κs = search needs
 smaller-requires-2 : tie.Need-smaller-requires-2
 smaller-requires-2 c κs = search needs
 
-either-run-requires : tie.Need-either-run-requires
-either-run-requires c κs =
+run-requires : tie.Need-run-requires
+run-requires c κs =
     let t = c .before .before .before .before .before .before .before .before .before .before in
     let r = start t .pre in
     let s = t .met-step .ensures in
@@ -38,7 +38,7 @@ either-run-requires c κs =
 add-t20 : tie.Need-add-t20
 add-t20 c =
     let r = start (c .before .before .before .before .before .before .before .before .before .before .before .before .before .before .before .before) .pre in
-    let g = c .before .before .before .before .before .either-run .ensures in
+    let g = c .before .before .before .before .before .run .ensures in
     omega (arith, g .passed, g .within, g .within′, r .most, r .most′)
 
 same-length : tie.Need-same-length
@@ -50,7 +50,7 @@ same-length-2 c = search needs
 returns : tie.Need-returns
 returns c =
     let t = c .before .before .before .before .before .before .before .before .before .before .before .before .before .before .before .before in
-    let g = c .before .before .before .before .before .either-run .ensures in
+    let g = c .before .before .before .before .before .run .ensures in
     (ran-then (start t .pre) (t .met-step .ensures) g, omega (arith, g .passed, passes (t .met-step .ensures)))
 
 pub any-run-spec : {M : Type 1} → statement M
@@ -62,7 +62,7 @@ any-run-spec =
     sub-smaller-2
     smaller-requires
     smaller-requires-2
-    either-run-requires
+    run-requires
     add-t20
     same-length
     same-length-2

@@ -14,11 +14,11 @@ use Rattle.merges.proofs.merge.Statement.{statement}
 use Rattle.merges.proofs.merge.Tie as tie
 
 abbrev Inv-loop : tie.InvT-loop
-Inv-loop negate dims ia va ib vb oi₀ ov₀ p₀ q₀ n₀ turns₀ quick₀ oi ov p q n turns quick =
+Inv-loop negate dims ia va ib vb oi₀ ov₀ p₀ q₀ n₀ turns₀ way₀ oi ov p q n turns way =
     Merging (opOf negate) 0 (vector dims ia va) (vector dims ib vb) oi₀ ov₀ oi ov p q n turns
 
 abbrev μ-loop : tie.MeasureT-loop
-μ-loop negate dims ia va ib vb oi₀ ov₀ p₀ q₀ n₀ turns₀ quick₀ oi ov p q n turns quick = length ia + length ib - (p + q)
+μ-loop negate dims ia va ib vb oi₀ ov₀ p₀ q₀ n₀ turns₀ way₀ oi ov p q n turns way = length ia + length ib - (p + q)
 
 -- before the loop; in it, after a run; and after the last turns
 abbrev start : tie.At-loop Inv-loop μ-loop → tie.Start Inv-loop μ-loop
