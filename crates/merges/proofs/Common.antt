@@ -19,10 +19,11 @@ use Rattle.sparse.proofs.Look.{look-end}
 use Rattle.walks.specs.Walk.{Taken, Turned, Put, putCount}
 use Rattle.walks.specs.declared.Turn.{Turn}
 use Rattle.walks.proofs.Stores.{put-most, Written, written-empty, written-lengths}
+use Rattle.walks.proofs.Turns.{to-left, to-right}
 use Rattle.walks.proofs.Walk.{Going, kept-up, taken-next}
 use Rattle.steps.specs.Places.{multiplied}
 use Rattle.merges.specs.Algebra.{joins, commonEnd, commonTurns}
-use Rattle.merges.specs.Loops.{Ready, Fills}
+use Rattle.merges.specs.Loops.{Ready, Fills, Passed}
 use Rattle.merges.specs.declared.Op.the-variants.{Mul}
 use Rattle.merges.proofs.Made.{joinAt, Made, made-start, made-more, made-merged}
 
@@ -122,6 +123,45 @@ module _ {a b : Vector} {oi : List ℕ} {ov : List Float} (r : Ready a b (min (s
             (omega (arith, m .few, m .few′, r .room)) (omega (arith, m .few, m .few′, r .room′)) e put;
       }
 
+-- ---- many turns to places that one side alone has
+module _ {a b : Vector} {oi : List ℕ} {ov : List Float} (r : Ready a b (min (size a) (size b)) oi ov) {oi′ : List ℕ} {ov′ : List Float} {n : ℕ} where
+  left-alone : {p q turns : ℕ} → Multiplying a b oi ov oi′ ov′ p q n turns → p < size a → q < size b → getD (a .indexes) p 0 < getD (b .indexes) q 0
+      → Multiplying a b oi ov oi′ ov′ (p + 1) q n (turns + 1)
+  left-alone m ha hb less = multiplying-more r m ha hb (to-left ha (λ g. less)) refl (record { count = refl; indexes = refl; values = refl })
+
+  right-alone : {p q turns : ℕ} → Multiplying a b oi ov oi′ ov′ p q n turns → p < size a → q < size b → getD (b .indexes) q 0 < getD (a .indexes) p 0
+      → Multiplying a b oi ov oi′ ov′ p (q + 1) n (turns + 1)
+  right-alone m ha hb less = multiplying-more r m ha hb (to-right hb (λ g. less)) refl (record { count = refl; indexes = refl; values = refl })
+
+  pub multiplying-left : {p q turns : ℕ} → Multiplying a b oi ov oi′ ov′ p q n turns → (k : ℕ) → Passed (a .indexes) p (b .indexes) q k
+      → Multiplying a b oi ov oi′ ov′ (p + k) q n (turns + k)
+  multiplying-left {p} {q} {turns} m k h =
+      let e : p + 0 ≡ p = omega arith in
+      let f : turns + 0 ≡ turns = omega arith in
+      kept-up (λ i. Multiplying a b oi ov oi′ ov′ (p + i) q n (turns + i)) 0 k (omega arith)
+      (λ i lo hi g.
+      let l = h .1 i hi in
+      let e′ : p + suc i ≡ p + i + 1 = omega arith in
+      let f′ : turns + suc i ≡ turns + i + 1 = omega arith in
+      rw (e′, f′) (left-alone g (omega (arith, h .0)) (l .0) (l .1)))
+      (rw (e, f) m)
+
+  pub multiplying-right : {p q turns : ℕ} → Multiplying a b oi ov oi′ ov′ p q n turns → (k : ℕ) → Passed (b .indexes) q (a .indexes) p k
+      → Multiplying a b oi ov oi′ ov′ p (q + k) n (turns + k)
+  multiplying-right {p} {q} {turns} m k h =
+      let e : q + 0 ≡ q = omega arith in
+      let f : turns + 0 ≡ turns = omega arith in
+      kept-up (λ i. Multiplying a b oi ov oi′ ov′ p (q + i) n (turns + i)) 0 k (omega arith)
+      (λ i lo hi g.
+      let l = h .1 i hi in
+      let e′ : q + suc i ≡ q + i + 1 = omega arith in
+      let f′ : turns + suc i ≡ turns + i + 1 = omega arith in
+      rw (e′, f′) (right-alone g (l .0) (omega (arith, h .0)) (l .1)))
+      (rw (e, f) m)
+
+-- ---- the end
+module _ {a b : Vector} {oi : List ℕ} {ov : List Float} (r : Ready a b (min (size a) (size b)) oi ov)
+    {oi′ : List ℕ} {ov′ : List Float} {p q n turns : ℕ} (m : Multiplying a b oi ov oi′ ov′ p q n turns) where
   -- past the end of one nothing is written any more
   rest : (size a ≤ p) ⊎ (size b ≤ q) → (i : ℕ) → m .going .front ≤ i → joinAt Mul a b i ≡ Empty
   rest ended i le =

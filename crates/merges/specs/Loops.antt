@@ -1,9 +1,9 @@
 -- What the loops that merge promise to the calls above them. A user's promises do not cite these.
-use Prim.Native.Nat.{ℕ, _≤_}
+use Prim.Native.Nat.{ℕ, _+_, _≤_, _<_}
 use mathlib.Core.Bool.{Bool, true, false}
 use mathlib.Core.List.{List, _++_}
 use mathlib.Core.Path.{_≡_}
-use lib.ListN.{length, drop}
+use lib.ListN.{length, getD, drop}
 use lib.Ieee.{Float}
 use Rattle.sparse.specs.Vectors.{Vector, size}
 use Rattle.sparse.specs.Sound.{Sound}
@@ -31,3 +31,9 @@ pub record Fills (v : Vector) (turns : ℕ) (oi : List ℕ) (ov : List Float) (r
 abbrev pub opOf : Bool → Op
 opOf true = Sub
 opOf false = Add
+
+-- ---- products
+
+-- the r indexes from p on are below the other side's index q
+abbrev pub Passed : List ℕ → ℕ → List ℕ → ℕ → ℕ → Type 0
+Passed is p js q r = (p + r ≤ length is) × ((j : ℕ) → j < r → (q < length js) × (getD is (p + j) 0 < getD js q 0))

@@ -8,9 +8,10 @@ ghost use mathlib.Core.Path.{_≡_};
 ghost use Prim.Native.Nat.{_+_, _≤_, min};
 ghost use lib.ListN.{length};
 ghost use Rattle.sparse.specs.Vectors.{vector};
+ghost use Rattle.sparse.specs.Sound.{Rising};
 ghost use Rattle.merges.specs.Algebra.{joins, unionTurns, commonTurns, turnsOf, roomFor};
 ghost use Rattle.merges.specs.Calls.{Joins};
-ghost use Rattle.merges.specs.Loops.{Ready, Fills, opOf};
+ghost use Rattle.merges.specs.Loops.{Ready, Fills, opOf, Passed};
 ghost use Rattle.merges.specs.declared.Op.the-variants.{Add, Sub, Mul};
 
 // How two places are put together.
@@ -62,7 +63,7 @@ fn merge(
 }
 
 // Writes the product of two vectors of equal dims, walking over both to the end of one.
-fn multiply(
+fn quick_multiply(
     dims: u32,
     ia: &[u32],
     va: &[f32],
@@ -89,6 +90,69 @@ fn multiply(
         len: len,
         turns: turns,
     }
+}
+
+// How many indexes from p on are below the other side's index q. None are where that side has ended.
+fn count_below(is: &[u32], p: usize, js: &[u32], q: usize) -> usize
+    requires { ⌜ Rising (now is) × (p ≤ length (now is)) ⌝ }
+    ensures { λ r. ⌜ Passed (now (is .entry)) p (now (js .entry)) q r ⌝ }
+{
+    if js.len() <= q {
+        return 0;
+    }
+    walks::near_point(&is[p..is.len()], js[q])
+}
+
+// Writes the same, for vectors of which one has nearly all entries: after each turn those that come before the other
+// side's next are found, and passed at once.
+fn skip_multiply(
+    dims: u32,
+    ia: &[u32],
+    va: &[f32],
+    ib: &[u32],
+    vb: &[f32],
+    oi: &mut [u32],
+    ov: &mut [f32],
+) -> Both
+    requires { ⌜ Ready (vector dims (now ia) (now va)) (vector dims (now ib) (now vb)) (min (length (now ia)) (length (now ib))) (now oi) (now ov) ⌝ }
+    ensures { λ r. ⌜ Fills (joins Mul (vector dims (now (ia .entry)) (now (va .entry))) (vector dims (now (ib .entry)) (now (vb .entry)))) (commonTurns (vector dims (now (ia .entry)) (now (va .entry))) (vector dims (now (ib .entry)) (now (vb .entry)))) (now (oi .entry)) (now (ov .entry)) r (now (oi .exit)) (now (ov .exit)) ⌝ }
+{
+    let mut p: usize = 0;
+    let mut q: usize = 0;
+    let mut len: usize = 0;
+    let mut turns: usize = 0;
+    while p < ia.len() && q < ib.len() {
+        let s = steps::mul_step(ia, va, p, ib, vb, q, oi, ov, len);
+        let a = count_below(ia, s.p, ib, s.q);
+        p = s.p + a;
+        let b = count_below(ib, s.q, ia, p);
+        q = s.q + b;
+        len = s.n;
+        turns += 1 + a + b;
+    }
+    Both {
+        len: len,
+        turns: turns,
+    }
+}
+
+// Writes the same by one way or the other.
+fn multiply(
+    dims: u32,
+    ia: &[u32],
+    va: &[f32],
+    ib: &[u32],
+    vb: &[f32],
+    oi: &mut [u32],
+    ov: &mut [f32],
+) -> Both
+    requires { ⌜ Ready (vector dims (now ia) (now va)) (vector dims (now ib) (now vb)) (min (length (now ia)) (length (now ib))) (now oi) (now ov) ⌝ }
+    ensures { λ r. ⌜ Fills (joins Mul (vector dims (now (ia .entry)) (now (va .entry))) (vector dims (now (ib .entry)) (now (vb .entry)))) (commonTurns (vector dims (now (ia .entry)) (now (va .entry))) (vector dims (now (ib .entry)) (now (vb .entry)))) (now (oi .entry)) (now (ov .entry)) r (now (oi .exit)) (now (ov .exit)) ⌝ }
+{
+    if (ia.len() + ib.len()) / 16 <= walks::smaller(ia.len(), ib.len()) {
+        return quick_multiply(dims, ia, va, ib, vb, oi, ov);
+    }
+    skip_multiply(dims, ia, va, ib, vb, oi, ov)
 }
 
 // Writes what two vectors of equal dims give.

@@ -6,7 +6,7 @@ use mathlib.Core.Path.{refl}
 use lib.ListN.{length}
 use borrow.Author.Tests.{ltb-true}
 use Rattle.sparse.specs.Vectors.{vector}
-use Rattle.sparse.proofs.Checks.{sizes-most}
+use Rattle.sparse.proofs.Checks.{size-most, sizes-most}
 use Rattle.merges.specs.Loops.{opOf}
 use Rattle.merges.proofs.Made.{Merging, merging-start, lengths, merging-fills}
 use Rattle.merges.proofs.Turning.{merging-running, merging-chain}
@@ -27,7 +27,7 @@ start c = c .before .before .before .before .before .before .before
 abbrev ran : tie.After-any-run Inv-loop μ-loop → tie.At-loop Inv-loop μ-loop
 ran c = c .before .before .before .before .before
 
-abbrev ended : tie.After-struct-known3 Inv-loop μ-loop → tie.At-loop Inv-loop μ-loop
+abbrev ended : tie.After-struct-known4 Inv-loop μ-loop → tie.At-loop Inv-loop μ-loop
 ended c = c .before .before .before .before .before .before .before .before .before
 
 loop-holds : tie.Need-loop-holds Inv-loop μ-loop
@@ -40,38 +40,34 @@ any-run-requires c κs =
     merging-running (t .args .negate) (t .pre) refl (l .loop .inv) (omega arith)
     (omega (arith, ltb-true (l .loop .q) (length (t .args .ib .now)) (c .before .before .if1 .taken)))
 
-add-quick : tie.Need-add-quick Inv-loop μ-loop
-add-quick c =
-    let g = c .before .before .before .before .before .any-run .ensures in
-    let r = start (ran (c .before .before .before .before .before)) .pre in
-    omega (arith, g .1, g .0 .within, g .0 .within′, sizes-most (r .left) (r .right))
+sub-way-on : tie.Need-sub-way-on Inv-loop μ-loop
+sub-way-on c = c .before .before .before .before .before .any-run .ensures .0 .left
 
-add-quick-2 : tie.Need-add-quick-2 Inv-loop μ-loop
-add-quick-2 c =
-    let g = c .before .before .before .before .before .any-run .ensures in
-    let r = start (ran (c .before .before .before .before .before)) .pre in
-    omega (arith, g .1, g .0 .within, g .0 .within′, sizes-most (r .left) (r .right))
+sub-way-on-2 : tie.Need-sub-way-on-2 Inv-loop μ-loop
+sub-way-on-2 c = c .before .before .before .before .before .before .any-run .ensures .0 .right
 
-add-quick-3 : tie.Need-add-quick-3 Inv-loop μ-loop
-add-quick-3 c =
-    let g = c .before .before .before .before .before .any-run .ensures in
-    let r = start (ran (c .before .before .before .before .before)) .pre in
-    omega (arith, g .1, g .0 .within, g .0 .within′, sizes-most (r .left) (r .right))
+way-on-requires : tie.Need-way-on-requires Inv-loop μ-loop
+way-on-requires c κs =
+    let g = c .before .before .before .before .before .before .any-run .ensures .0 in
+    let r = start (ran (c .before .before .before .before .before .before)) .pre in
+    let a = size-most (r .left) in
+    let b = size-most (r .right) in
+    (omega (arith, g .within, a, r .left .high), omega (arith, g .within′, b, r .right .high))
 
 add-turns : tie.Need-add-turns Inv-loop μ-loop
 add-turns c =
-    let g = c .before .before .before .before .before .before .any-run .ensures in
-    let l = ran (c .before .before .before .before .before .before) in
+    let g = c .before .before .before .before .before .before .before .before .any-run .ensures in
+    let l = ran (c .before .before .before .before .before .before .before .before) in
     let r = start l .pre in
     omega (arith, l .loop .inv .steps, g .0 .passed, g .0 .within, g .0 .within′, sizes-most (r .left) (r .right))
 
 loop-less : tie.Need-loop-less Inv-loop μ-loop
-loop-less c = let g = c .before .before .before .before .before .before .any-run .ensures in omega (arith, g .1, g .0 .within, g .0 .within′)
+loop-less c = let g = c .before .before .before .before .before .before .before .before .any-run .ensures in omega (arith, g .1, g .0 .within, g .0 .within′)
 
 loop-again : tie.Need-loop-again Inv-loop μ-loop
 loop-again c =
-    let l = ran (c .before .before .before .before .before .before) in
-    merging-chain (start l .args .negate) (start l .pre) refl (l .loop .inv) (c .before .before .before .before .before .before .any-run .ensures .0 .chain)
+    let l = ran (c .before .before .before .before .before .before .before .before) in
+    merging-chain (start l .args .negate) (start l .pre) refl (l .loop .inv) (c .before .before .before .before .before .before .before .before .any-run .ensures .0 .chain)
 
 finish-requires : tie.Need-finish-requires Inv-loop μ-loop
 finish-requires c κs =
@@ -80,8 +76,8 @@ finish-requires c κs =
     let w = l .loop .inv .going .walk in
     merging-running (t .args .negate) (t .pre) refl (l .loop .inv) (omega (arith, w .left .within)) (omega (arith, w .right .within))
 
-add-t30 : tie.Need-add-t30 Inv-loop μ-loop
-add-t30 c =
+add-t29 : tie.Need-add-t29 Inv-loop μ-loop
+add-t29 c =
     let g = c .before .before .before .before .before .finish .ensures .0 in
     let l = ended c in
     let r = start l .pre in
@@ -112,14 +108,14 @@ merge-spec =
     μ-loop
     loop-holds
     any-run-requires
-    add-quick
-    add-quick-2
-    add-quick-3
+    sub-way-on
+    sub-way-on-2
+    way-on-requires
     add-turns
     loop-less
     loop-again
     finish-requires
-    add-t30
+    add-t29
     same-length
     same-length-2
     returns)

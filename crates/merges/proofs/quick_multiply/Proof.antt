@@ -1,4 +1,4 @@
--- `merges::multiply` meets its contract. The loop's invariant: the entries and the turns of the places below the walk are made, no more
+-- `merges::quick_multiply` meets its contract. The loop's invariant: the entries and the turns of the places below the walk are made, no more
 -- entries than entries of either vector are passed, and no more turns than of both. The measure is the number of entries left in both.
 -- Assumes nothing.
 use Prim.Native.Nat.{_+_, _-_, _<_}
@@ -12,8 +12,8 @@ use Rattle.sparse.proofs.Checks.{sizes-most}
 use Rattle.walks.proofs.Walk.{passed, standing}
 use Rattle.steps.proofs.Turning.{passes}
 use Rattle.merges.proofs.Common.{Multiplying, multiplying-start, lengths, multiplying-more, multiplying-end}
-use Rattle.merges.proofs.multiply.Statement.{statement}
-use Rattle.merges.proofs.multiply.Tie as tie
+use Rattle.merges.proofs.quick_multiply.Statement.{statement}
+use Rattle.merges.proofs.quick_multiply.Tie as tie
 
 abbrev Inv-loop : tie.InvT-loop
 Inv-loop dims ia va ib vb oi₀ ov₀ p₀ q₀ len₀ turns₀ oi ov p q len turns =
@@ -87,8 +87,8 @@ same-length-4 c = lengths (start (c .before) .pre) (c .before .loop .inv) .1
 returns-2 : tie.Need-returns-2 Inv-loop μ-loop
 returns-2 c = multiplying-end (start (c .before) .pre) (c .before .loop .inv) (inl (omega arith))
 
-pub multiply-spec : {M : Type 1} → statement M
-multiply-spec =
+pub quick-multiply-spec : {M : Type 1} → statement M
+quick-multiply-spec =
     tie.close
     (tie.spec
     Inv-loop
