@@ -4,6 +4,7 @@ use refusal::Checked;
 use refusal::Distance;
 use sums::Kind;
 pub use sums::Three;
+use walks::Way;
 ghost use mathlib.Core.Path.{_≡_};
 ghost use Rattle.sparse.specs.Vectors.{vector};
 ghost use Rattle.sums.specs.Sums.{sumOf, threeOf};
@@ -16,8 +17,8 @@ pub enum Summed {
     Refused(u32, usize),
 }
 
-// The sum over two vectors of equal dims, in rising order. How far the last run came says how many of its turns met, and so which run
-// is the better one next.
+// The sum over two vectors of equal dims, in rising order. What the last run passed of either side says which way is the best one
+// next.
 fn sum_of(kind: Kind, dims: u32, ia: &[u32], va: &[f32], ib: &[u32], vb: &[f32]) -> f32
     requires { ⌜ Ready (vector dims (now ia) (now va)) (vector dims (now ib) (now vb)) ⌝ }
     ensures { λ r. ⌜ r ≡ sumOf kind (vector dims (now (ia .entry)) (now (va .entry))) (vector dims (now (ib .entry)) (now (vb .entry))) ⌝ }
@@ -25,11 +26,11 @@ fn sum_of(kind: Kind, dims: u32, ia: &[u32], va: &[f32], ib: &[u32], vb: &[f32])
     let mut p: usize = 0;
     let mut q: usize = 0;
     let mut acc: f32 = 0.0;
-    let mut quick = true;
+    let mut way = Way::Quick;
     while p < ia.len() && q < ib.len() {
         let k = walks::smaller(64, walks::smaller(ia.len() - p, ib.len() - q));
-        let s = sum_runs::run(kind, quick, k, acc, ia, va, p, ib, vb, q);
-        quick = s.p + s.q < p + q + 104;
+        let s = sum_runs::run(kind, way, k, acc, ia, va, p, ib, vb, q);
+        way = walks::way_on(s.p - p, s.q - q);
         acc = s.acc;
         p = s.p;
         q = s.q;
@@ -91,11 +92,11 @@ fn three_of(dims: u32, ia: &[u32], va: &[f32], ib: &[u32], vb: &[f32]) -> Three
         x2: 0.0,
         y2: 0.0,
     };
-    let mut quick = true;
+    let mut way = Way::Quick;
     while p < ia.len() && q < ib.len() {
         let k = walks::smaller(64, walks::smaller(ia.len() - p, ib.len() - q));
-        let s = three_runs::run(quick, k, acc, ia, va, p, ib, vb, q);
-        quick = s.p + s.q < p + q + 104;
+        let s = three_runs::run(way, k, acc, ia, va, p, ib, vb, q);
+        way = walks::way_on(s.p - p, s.q - q);
         acc = s.acc;
         p = s.p;
         q = s.q;

@@ -4,6 +4,7 @@
 use sparse::Cell;
 use sums::Kind;
 use sums::Part;
+use walks::Way;
 ghost use Rattle.sums.specs.Sums.{stepOf};
 ghost use Rattle.sums.specs.Loops.{Running, Ran};
 
@@ -86,10 +87,9 @@ fn met_run(
     }
 }
 
-// So many turns: without a branch if `quick` asks for it.
-pub fn run(
+// Turns with branches on which side is next, for sides of which one has nearly all entries.
+fn plain_run(
     kind: Kind,
-    quick: bool,
     k: usize,
     acc: f32,
     ia: &[u32],
@@ -102,8 +102,43 @@ pub fn run(
     requires { ⌜ Running (now ia) (now va) p (now ib) (now vb) q k ⌝ }
     ensures { λ r. ⌜ Ran (stepOf kind) k acc (now (ia .entry)) (now (va .entry)) p (now (ib .entry)) (now (vb .entry)) q (r .acc) (r .p) (r .q) ⌝ }
 {
-    if quick {
-        return quick_run(kind, k, acc, ia, va, p, ib, vb, q);
+    let mut u = p;
+    let mut v = q;
+    let mut sum = acc;
+    let mut taken: usize = 0;
+    while taken < k {
+        let t = sums::plain_turn(kind, sum, ia, va, u, ib, vb, v);
+        sum = t.acc;
+        u = t.p;
+        v = t.q;
+        taken += 1;
     }
-    met_run(kind, k, acc, ia, va, p, ib, vb, q)
+    Part {
+        acc: sum,
+        p: u,
+        q: v,
+    }
+}
+
+// So many turns, in one of three ways.
+pub fn run(
+    kind: Kind,
+    way: Way,
+    k: usize,
+    acc: f32,
+    ia: &[u32],
+    va: &[f32],
+    p: usize,
+    ib: &[u32],
+    vb: &[f32],
+    q: usize,
+) -> Part
+    requires { ⌜ Running (now ia) (now va) p (now ib) (now vb) q k ⌝ }
+    ensures { λ r. ⌜ Ran (stepOf kind) k acc (now (ia .entry)) (now (va .entry)) p (now (ib .entry)) (now (vb .entry)) q (r .acc) (r .p) (r .q) ⌝ }
+{
+    match way {
+        Way::Plain => plain_run(kind, k, acc, ia, va, p, ib, vb, q),
+        Way::Quick => quick_run(kind, k, acc, ia, va, p, ib, vb, q),
+        Way::Meeting => met_run(kind, k, acc, ia, va, p, ib, vb, q),
+    }
 }

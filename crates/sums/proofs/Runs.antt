@@ -1,5 +1,5 @@
 -- Many turns of a sum, one after the other. Assumes nothing.
-use Prim.Native.Nat.{ℕ, _+_, _^_, _≤_, _<_}
+use Prim.Native.Nat.{ℕ, _+_, _-_, _≤_, _<_}
 use native.Mathlib.Numerals.{add-one}
 use native.Mathlib.Omega.{arith}
 use mathlib.Core.List.{List}
@@ -11,7 +11,7 @@ use Rattle.sparse.specs.Vectors.{Vector, size}
 use Rattle.sparse.specs.declared.Cell.{Cell}
 use Rattle.sparse.specs.declared.Cell.the-variants.{Empty}
 use Rattle.sparse.proofs.Checks.{size-most}
-use Rattle.walks.specs.Walk.{Taken}
+use Rattle.walks.specs.Walk.{Taken, Standing}
 use Rattle.sums.specs.Loops.{Ready, Added, Running, Chain, none, more, Ran}
 use Rattle.sums.proofs.Summing.{Summing, summing-more}
 
@@ -41,6 +41,19 @@ module _ {A : Type 0} {step : A → Cell → Cell → A} {k : ℕ} {acc : A} {is
     pub runs-right : taken < k → v < length js
     runs-right l = omega (arith, h .right, g .right)
 
+    -- a walk stands there
+    pub runs-standing : taken < k → Standing is vs u js ws v
+    runs-standing l =
+        record {
+          even = h .even;
+          even′ = h .even′;
+          within = omega (arith, h .left, g .left);
+          within′ = omega (arith, h .right, g .right);
+          most = h .most;
+          most′ = h .most′;
+          more = omega (arith, h .left, g .left, h .right, g .right);
+        }
+
     -- one turn more
     pub runs-more : taken < k → {s : A} {u′ v′ : ℕ} → Added step sum is vs u js ws v s u′ v′
         → Runs step k acc is vs p js ws q u′ v′ s (taken + 1)
@@ -61,6 +74,8 @@ module _ {A : Type 0} {step : A → Cell → Cell → A} {k : ℕ} {acc : A} {is
         let e : taken ≡ k = omega (arith, g .most) in
         record {
           chain = rw e at (g .chain);
+          left = omega (arith, g .right, g .passed);
+          right = omega (arith, g .left, g .passed);
           within = omega (arith, g .left, h .left, g .most);
           within′ = omega (arith, g .right, h .right, g .most);
           passed = omega (arith, g .passed, g .most);
@@ -68,14 +83,9 @@ module _ {A : Type 0} {step : A → Cell → Cell → A} {k : ℕ} {acc : A} {is
 
 -- ---- a sum over two vectors that takes them
 
--- its entries are few: the numbers of those that it passed, and 104 more, are in the range of a usize
-pub few : {a b : Vector} → Ready a b → {p q : ℕ} → p ≤ size a → q ≤ size b → (p + q < 2 ^ 64) × (p + q + 104 < 2 ^ 64)
-few r l h =
-    let left = size-most (r .left) in
-    let right = size-most (r .right) in
-    let high = r .left .high in
-    let high′ = r .right .high in
-    (omega arith, omega arith)
+-- it passes few entries of either side
+pub few : {a b : Vector} → Ready a b → (p q : ℕ) {u v : ℕ} → u ≤ size a → v ≤ size b → (u - p ≤ 1048575) × (v - q ≤ 1048575)
+few r p q l h = (omega (arith, size-most (r .left), r .left .high), omega (arith, size-most (r .right), r .right .high))
 
 pub summing-added : {A : Type 0} {step : A → Cell → Cell → A} (still : (acc : A) → step acc Empty Empty ≡ acc) {start : A} {a b : Vector} (r : Ready a b)
     → a .dims ≡ b .dims → {p q : ℕ} {acc : A} → Summing step start a b p q acc → {sum : A} {u v : ℕ}

@@ -55,6 +55,8 @@ pub data Chain {A : Type 0} (step : A → Cell → Cell → A) (acc : A) (is : L
 pub record Ran {A : Type 0} (step : A → Cell → Cell → A) (k : ℕ) (acc : A) (is : List ℕ) (vs : List Float) (p : ℕ) (js : List ℕ) (ws : List Float) (q : ℕ)
     (sum : A) (u v : ℕ) : Type 0 where
   pub chain : Chain step acc is vs p js ws q k sum u v
+  pub left : p ≤ u
+  pub right : q ≤ v
   pub within : u ≤ length is
   pub within′ : v ≤ length js
   pub passed : p + q + k ≤ u + v

@@ -167,7 +167,7 @@ pub fn lone_place(
     acc
 }
 
-// ---- the turns where one side has ended
+// ---- turns with branches, where one side may have ended
 
 // One turn of a walk that has an entry left.
 pub fn plain_turn(

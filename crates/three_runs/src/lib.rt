@@ -4,6 +4,7 @@
 use sparse::Cell;
 use sums::Three;
 use sums::ThreePart;
+use walks::Way;
 ghost use Rattle.sums.specs.Sums.{threeStep};
 ghost use Rattle.sums.specs.Loops.{Running, Ran};
 
@@ -89,9 +90,8 @@ fn met_run(
     }
 }
 
-// So many turns: without a branch if `quick` asks for it.
-pub fn run(
-    quick: bool,
+// Turns with branches on which side is next, for sides of which one has nearly all entries.
+fn plain_run(
     k: usize,
     acc: Three,
     ia: &[u32],
@@ -104,8 +104,42 @@ pub fn run(
     requires { ⌜ Running (now ia) (now va) p (now ib) (now vb) q k ⌝ }
     ensures { λ r. ⌜ Ran threeStep k acc (now (ia .entry)) (now (va .entry)) p (now (ib .entry)) (now (vb .entry)) q (r .acc) (r .p) (r .q) ⌝ }
 {
-    if quick {
-        return quick_run(k, acc, ia, va, p, ib, vb, q);
+    let mut u = p;
+    let mut v = q;
+    let mut sum = acc;
+    let mut taken: usize = 0;
+    while taken < k {
+        let t = sums::plain_three_turn(sum, ia, va, u, ib, vb, v);
+        sum = t.acc;
+        u = t.p;
+        v = t.q;
+        taken += 1;
     }
-    met_run(k, acc, ia, va, p, ib, vb, q)
+    ThreePart {
+        acc: sum,
+        p: u,
+        q: v,
+    }
+}
+
+// So many turns, in one of three ways.
+pub fn run(
+    way: Way,
+    k: usize,
+    acc: Three,
+    ia: &[u32],
+    va: &[f32],
+    p: usize,
+    ib: &[u32],
+    vb: &[f32],
+    q: usize,
+) -> ThreePart
+    requires { ⌜ Running (now ia) (now va) p (now ib) (now vb) q k ⌝ }
+    ensures { λ r. ⌜ Ran threeStep k acc (now (ia .entry)) (now (va .entry)) p (now (ib .entry)) (now (vb .entry)) q (r .acc) (r .p) (r .q) ⌝ }
+{
+    match way {
+        Way::Plain => plain_run(k, acc, ia, va, p, ib, vb, q),
+        Way::Quick => quick_run(k, acc, ia, va, p, ib, vb, q),
+        Way::Meeting => met_run(k, acc, ia, va, p, ib, vb, q),
+    }
 }

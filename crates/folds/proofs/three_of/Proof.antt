@@ -16,16 +16,16 @@ use Rattle.folds.proofs.three_of.Statement.{statement}
 use Rattle.folds.proofs.three_of.Tie as tie
 
 abbrev Inv-loop : tie.InvT-loop
-Inv-loop dims ia va ib vb p₀ q₀ acc₀ quick₀ p q acc quick = Summing threeStep zeroThree (vector dims ia va) (vector dims ib vb) p q acc
+Inv-loop dims ia va ib vb p₀ q₀ acc₀ way₀ p q acc way = Summing threeStep zeroThree (vector dims ia va) (vector dims ib vb) p q acc
 
 abbrev μ-loop : tie.MeasureT-loop
-μ-loop dims ia va ib vb p₀ q₀ acc₀ quick₀ p q acc quick = length ia + length ib - (p + q)
+μ-loop dims ia va ib vb p₀ q₀ acc₀ way₀ p q acc way = length ia + length ib - (p + q)
 
 abbrev Inv-loop2 : tie.InvT-loop2
-Inv-loop2 dims ia va ib vb p₀ q₀ acc₀ quick p q acc = Summing threeStep zeroThree (vector dims ia va) (vector dims ib vb) p q acc
+Inv-loop2 dims ia va ib vb p₀ q₀ acc₀ p q acc = Summing threeStep zeroThree (vector dims ia va) (vector dims ib vb) p q acc
 
 abbrev μ-loop2 : tie.MeasureT-loop2
-μ-loop2 dims ia va ib vb p₀ q₀ acc₀ quick p q acc = length ia + length ib - (p + q)
+μ-loop2 dims ia va ib vb p₀ q₀ acc₀ p q acc = length ia + length ib - (p + q)
 
 abbrev start : tie.At-loop Inv-loop μ-loop Inv-loop2 μ-loop2 → tie.Start Inv-loop μ-loop Inv-loop2 μ-loop2
 start c = c .before .before .before .before .before
@@ -54,26 +54,22 @@ run-requires c κs =
     let m = c .before .smaller .ensures in
     summing-running still-three (t .pre) refl (l .loop .inv) (omega (arith, k, m, h .left .within)) (omega (arith, k, m, h .right .within))
 
-add-quick : tie.Need-add-quick Inv-loop μ-loop Inv-loop2 μ-loop2
-add-quick c =
-    let e = c .before .run .ensures in
-    record { fits = few (start (c .before .before .before .before .before .before) .pre) (e .within) (e .within′) .0 }
+sub-way-on : tie.Need-sub-way-on Inv-loop μ-loop Inv-loop2 μ-loop2
+sub-way-on c = c .before .run .ensures .left
 
-add-quick-2 : tie.Need-add-quick-2 Inv-loop μ-loop Inv-loop2 μ-loop2
-add-quick-2 c =
-    let l = c .before .before .before .before .before .before in
-    let h = l .loop .inv .going .walk in
-    record { fits = few (start l .pre) (h .left .within) (h .right .within) .0 }
+sub-way-on-2 : tie.Need-sub-way-on-2 Inv-loop μ-loop Inv-loop2 μ-loop2
+sub-way-on-2 c = c .before .before .run .ensures .right
 
-add-quick-3 : tie.Need-add-quick-3 Inv-loop μ-loop Inv-loop2 μ-loop2
-add-quick-3 c =
-    let l = c .before .before .before .before .before .before in
-    let h = l .loop .inv .going .walk in
-    record { fits = few (start l .pre) (h .left .within) (h .right .within) .1 }
+way-on-requires : tie.Need-way-on-requires Inv-loop μ-loop Inv-loop2 μ-loop2
+way-on-requires c κs =
+    let r = c .before .before in
+    let l = r .before .before .before .before .before in
+    let e = r .run .ensures in
+    few (start l .pre) (l .loop .p) (l .loop .q) (e .within) (e .within′)
 
 loop-less : tie.Need-loop-less Inv-loop μ-loop Inv-loop2 μ-loop2
 loop-less c =
-    let r = c .before .before in
+    let r = c .before .before .before .before in
     let l = r .before .before .before .before .before in
     let a = start l .args in
     let k = r .before .smaller2 .ensures in
@@ -83,7 +79,7 @@ loop-less c =
 
 loop-again : tie.Need-loop-again Inv-loop μ-loop Inv-loop2 μ-loop2
 loop-again c =
-    let r = c .before .before in
+    let r = c .before .before .before .before in
     let l = r .before .before .before .before .before in
     let t = start l in
     summing-chain still-three (t .pre) refl (l .loop .inv) (r .run .ensures .chain)
@@ -135,9 +131,9 @@ three-of-spec =
     smaller-requires
     smaller-requires-2
     run-requires
-    add-quick
-    add-quick-2
-    add-quick-3
+    sub-way-on
+    sub-way-on-2
+    way-on-requires
     loop-less
     loop-again
     loop2-holds
