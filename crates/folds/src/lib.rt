@@ -28,9 +28,9 @@ fn sum_of(kind: Kind, dims: u32, ia: &[u32], va: &[f32], ib: &[u32], vb: &[f32])
     let mut acc: f32 = 0.0;
     let mut way = Way::Quick;
     while p < ia.len() && q < ib.len() {
-        let k = walks::smaller(64, walks::smaller(ia.len() - p, ib.len() - q));
+        let k = walks::run_length(way, ia.len() - p, ib.len() - q);
         let s = sum_runs::run(kind, way, k, acc, ia, va, p, ib, vb, q);
-        way = walks::way_on(s.p - p, s.q - q);
+        way = walks::way_on(k, s.p - p, s.q - q);
         acc = s.acc;
         p = s.p;
         q = s.q;
@@ -94,9 +94,9 @@ fn three_of(dims: u32, ia: &[u32], va: &[f32], ib: &[u32], vb: &[f32]) -> Three
     };
     let mut way = Way::Quick;
     while p < ia.len() && q < ib.len() {
-        let k = walks::smaller(64, walks::smaller(ia.len() - p, ib.len() - q));
+        let k = walks::run_length(way, ia.len() - p, ib.len() - q);
         let s = three_runs::run(way, k, acc, ia, va, p, ib, vb, q);
-        way = walks::way_on(s.p - p, s.q - q);
+        way = walks::way_on(k, s.p - p, s.q - q);
         acc = s.acc;
         p = s.p;
         q = s.q;

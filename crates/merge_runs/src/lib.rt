@@ -161,7 +161,7 @@ fn run(
     plain_run(negate, k, ia, va, p, ib, vb, q, oi, ov, n)
 }
 
-// A turn, and a run of up to 63 more.
+// A turn, and a run.
 pub fn any_run(
     negate: bool,
     way: Way,
@@ -180,8 +180,7 @@ pub fn any_run(
     ensures { λ r. ⌜ p + q < r .p + r .q ⌝ }
 {
     let s = steps::met_step(negate, ia, va, p, ib, vb, q, oi, ov, n);
-    let left = walks::smaller(ia.len() - s.p, ib.len() - s.q);
-    let k = walks::smaller(63, left);
+    let k = walks::run_length(way, ia.len() - s.p, ib.len() - s.q);
     let r = run(negate, way, k, ia, va, s.p, ib, vb, s.q, oi, ov, s.n);
     Block {
         p: r.p,

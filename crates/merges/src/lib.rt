@@ -49,7 +49,7 @@ fn merge(
     let mut way = Way::Quick;
     while p < ia.len() && q < ib.len() {
         let r = merge_runs::any_run(negate, way, ia, va, p, ib, vb, q, oi, ov, n);
-        way = walks::way_on(r.p - p, r.q - q);
+        way = walks::way_on(r.turns, r.p - p, r.q - q);
         p = r.p;
         q = r.q;
         n = r.n;

@@ -83,9 +83,11 @@ module _ {A : Type 0} {step : A → Cell → Cell → A} {k : ℕ} {acc : A} {is
 
 -- ---- a sum over two vectors that takes them
 
--- it passes few entries of either side
-pub few : {a b : Vector} → Ready a b → (p q : ℕ) {u v : ℕ} → u ≤ size a → v ≤ size b → (u - p ≤ 1048575) × (v - q ≤ 1048575)
-few r p q l h = (omega (arith, size-most (r .left), r .left .high), omega (arith, size-most (r .right), r .right .high))
+-- it takes few turns, and passes few entries of either side
+pub few : {a b : Vector} → Ready a b → (p q : ℕ) {k u v : ℕ} → p + k ≤ size a → u ≤ size a → v ≤ size b
+    → (k ≤ 1048575) × (u - p ≤ 1048575) × (v - q ≤ 1048575)
+few r p q m l h =
+    (omega (arith, size-most (r .left), r .left .high), omega (arith, size-most (r .left), r .left .high), omega (arith, size-most (r .right), r .right .high))
 
 pub summing-added : {A : Type 0} {step : A → Cell → Cell → A} (still : (acc : A) → step acc Empty Empty ≡ acc) {start : A} {a b : Vector} (r : Ready a b)
     → a .dims ≡ b .dims → {p q : ℕ} {acc : A} → Summing step start a b p q acc → {sum : A} {u v : ℕ}

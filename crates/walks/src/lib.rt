@@ -176,18 +176,19 @@ pub enum Way {
     Meeting,
 }
 
-// The way to go on after up to 64 turns that passed so many entries of either side. Turns that meet pass two. Any
-// answer is right, and one is fast.
-pub fn way_on(left: usize, right: usize) -> Way
-    requires { ⌜ (left ≤ 1048575) × (right ≤ 1048575) ⌝ }
+// The way to go on after so many turns that passed so many entries of either side. Turns that meet pass two. Any answer
+// is right, and one is fast.
+pub fn way_on(turns: usize, left: usize, right: usize) -> Way
+    requires { ⌜ (turns ≤ 1048575) × (left ≤ 1048575) × (right ≤ 1048575) ⌝ }
 {
-    if left < 14 {
+    let few = turns / 5;
+    if left < few {
         return Way::Plain;
     }
-    if right < 14 {
+    if right < few {
         return Way::Plain;
     }
-    if left + right < 104 {
+    if left + right < turns + turns / 8 * 5 {
         return Way::Quick;
     }
     Way::Meeting
@@ -198,4 +199,15 @@ pub fn smaller(a: usize, b: usize) -> usize
     ensures { λ r. ⌜ r ≡ min a b ⌝ }
 {
     if a <= b { a } else { b }
+}
+
+// How many turns are taken by one way before it is looked how to go on, where the sides have so many entries left.
+pub fn run_length(way: Way, left: usize, right: usize) -> usize
+    ensures { λ r. ⌜ (r ≤ left) × (r ≤ right) × (0 < left → 0 < right → 0 < r) ⌝ }
+{
+    let rest = smaller(left, right);
+    if let Way::Plain = way {
+        return smaller(256, rest);
+    }
+    smaller(64, rest)
 }

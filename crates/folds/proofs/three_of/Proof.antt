@@ -33,26 +33,22 @@ start c = c .before .before .before .before .before
 loop-holds : tie.Need-loop-holds Inv-loop μ-loop Inv-loop2 μ-loop2
 loop-holds c = summing-start
 
-sub-smaller : tie.Need-sub-smaller Inv-loop μ-loop Inv-loop2 μ-loop2
-sub-smaller c = c .before .before .loop .inv .going .walk .left .within
+sub-run-length : tie.Need-sub-run-length Inv-loop μ-loop Inv-loop2 μ-loop2
+sub-run-length c = c .before .before .loop .inv .going .walk .left .within
 
-sub-smaller-2 : tie.Need-sub-smaller-2 Inv-loop μ-loop Inv-loop2 μ-loop2
-sub-smaller-2 c = c .before .before .loop .inv .going .walk .right .within
+sub-run-length-2 : tie.Need-sub-run-length-2 Inv-loop μ-loop Inv-loop2 μ-loop2
+sub-run-length-2 c = c .before .before .loop .inv .going .walk .right .within
 
-smaller-requires : tie.Need-smaller-requires Inv-loop μ-loop Inv-loop2 μ-loop2
-smaller-requires c κs = search needs
-
-smaller-requires-2 : tie.Need-smaller-requires-2 Inv-loop μ-loop Inv-loop2 μ-loop2
-smaller-requires-2 c κs = search needs
+run-length-requires : tie.Need-run-length-requires Inv-loop μ-loop Inv-loop2 μ-loop2
+run-length-requires c κs = search needs
 
 run-requires : tie.Need-run-requires Inv-loop μ-loop Inv-loop2 μ-loop2
 run-requires c κs =
-    let l = c .before .before .before .before in
+    let l = c .before .before .before in
     let t = start l in
     let h = l .loop .inv .going .walk in
-    let k = c .smaller2 .ensures in
-    let m = c .before .smaller .ensures in
-    summing-running still-three (t .pre) refl (l .loop .inv) (omega (arith, k, m, h .left .within)) (omega (arith, k, m, h .right .within))
+    let k = c .run-length .ensures in
+    summing-running still-three (t .pre) refl (l .loop .inv) (omega (arith, k .0, h .left .within)) (omega (arith, k .1, h .right .within))
 
 sub-way-on : tie.Need-sub-way-on Inv-loop μ-loop Inv-loop2 μ-loop2
 sub-way-on c = c .before .run .ensures .left
@@ -63,24 +59,26 @@ sub-way-on-2 c = c .before .before .run .ensures .right
 way-on-requires : tie.Need-way-on-requires Inv-loop μ-loop Inv-loop2 μ-loop2
 way-on-requires c κs =
     let r = c .before .before in
-    let l = r .before .before .before .before .before in
+    let l = r .before .before .before .before in
     let e = r .run .ensures in
-    few (start l .pre) (l .loop .p) (l .loop .q) (e .within) (e .within′)
+    let k = r .before .run-length .ensures in
+    let w = l .loop .inv .going .walk .left .within in
+    few (start l .pre) (l .loop .p) (l .loop .q) (omega (arith, k .0, w)) (e .within) (e .within′)
 
 loop-less : tie.Need-loop-less Inv-loop μ-loop Inv-loop2 μ-loop2
 loop-less c =
     let r = c .before .before .before .before in
-    let l = r .before .before .before .before .before in
+    let l = r .before .before .before .before in
     let a = start l .args in
-    let k = r .before .smaller2 .ensures in
-    let m = r .before .before .smaller .ensures in
+    let k = r .before .run-length .ensures in
     let e = r .run .ensures in
-    omega (arith, e .passed, e .within, e .within′, k, m, ltb-true (l .loop .q) (length (a .ib .now)) (r .before .before .before .if1 .taken))
+    let h = ltb-true (l .loop .q) (length (a .ib .now)) (r .before .before .if1 .taken) in
+    omega (arith, e .passed, e .within, e .within′, k .2 (omega arith) (omega (arith, h)))
 
 loop-again : tie.Need-loop-again Inv-loop μ-loop Inv-loop2 μ-loop2
 loop-again c =
     let r = c .before .before .before .before in
-    let l = r .before .before .before .before .before in
+    let l = r .before .before .before .before in
     let t = start l in
     summing-chain still-three (t .pre) refl (l .loop .inv) (r .run .ensures .chain)
 
@@ -126,10 +124,9 @@ three-of-spec =
     Inv-loop2
     μ-loop2
     loop-holds
-    sub-smaller
-    sub-smaller-2
-    smaller-requires
-    smaller-requires-2
+    sub-run-length
+    sub-run-length-2
+    run-length-requires
     run-requires
     sub-way-on
     sub-way-on-2

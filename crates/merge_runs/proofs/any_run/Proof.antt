@@ -12,32 +12,28 @@ start c = c .before .before .before .before .before .before .before .before .bef
 met-step-requires : tie.Need-met-step-requires
 met-step-requires c κs = search needs
 
-sub-smaller : tie.Need-sub-smaller
-sub-smaller c = let t = c .before .before .before .before .before in left-within (t .met-step .ensures) (omega (arith, start t .pre .left)) .0
+sub-run-length : tie.Need-sub-run-length
+sub-run-length c = let t = c .before .before .before .before .before in left-within (t .met-step .ensures) (omega (arith, start t .pre .left)) .0
 
-sub-smaller-2 : tie.Need-sub-smaller-2
-sub-smaller-2 c = let t = c .before .before .before .before .before .before in right-within (t .met-step .ensures) (omega (arith, start t .pre .right)) .0
+sub-run-length-2 : tie.Need-sub-run-length-2
+sub-run-length-2 c = let t = c .before .before .before .before .before .before in right-within (t .met-step .ensures) (omega (arith, start t .pre .right)) .0
 
-smaller-requires : tie.Need-smaller-requires
-smaller-requires c κs = search needs
-
-smaller-requires-2 : tie.Need-smaller-requires-2
-smaller-requires-2 c κs = search needs
+run-length-requires : tie.Need-run-length-requires
+run-length-requires c κs = search needs
 
 run-requires : tie.Need-run-requires
 run-requires c κs =
-    let t = c .before .before .before .before .before .before .before .before .before .before in
+    let t = c .before .before .before .before .before .before .before .before .before in
     let r = start t .pre in
     let s = t .met-step .ensures in
     let a = left-within s (omega (arith, r .left)) .0 in
     let b = right-within s (omega (arith, r .right)) .0 in
-    let k = c .before .before .smaller2 .ensures in
-    let l = c .before .before .before .smaller .ensures in
-    running-then r s (omega (arith, a, b, k, l)) (omega (arith, a, b, k, l))
+    let k = c .before .before .run-length .ensures in
+    running-then r s (omega (arith, a, k .0)) (omega (arith, b, k .1))
 
-add-t20 : tie.Need-add-t20
-add-t20 c =
-    let r = start (c .before .before .before .before .before .before .before .before .before .before .before .before .before .before .before .before) .pre in
+add-t19 : tie.Need-add-t19
+add-t19 c =
+    let r = start (c .before .before .before .before .before .before .before .before .before .before .before .before .before .before .before) .pre in
     let g = c .before .before .before .before .before .run .ensures in
     omega (arith, g .passed, g .within, g .within′, r .most, r .most′)
 
@@ -49,7 +45,7 @@ same-length-2 c = search needs
 
 returns : tie.Need-returns
 returns c =
-    let t = c .before .before .before .before .before .before .before .before .before .before .before .before .before .before .before .before in
+    let t = c .before .before .before .before .before .before .before .before .before .before .before .before .before .before .before in
     let g = c .before .before .before .before .before .run .ensures in
     (ran-then (start t .pre) (t .met-step .ensures) g, omega (arith, g .passed, passes (t .met-step .ensures)))
 
@@ -58,12 +54,11 @@ any-run-spec =
     tie.close
     (tie.spec
     met-step-requires
-    sub-smaller
-    sub-smaller-2
-    smaller-requires
-    smaller-requires-2
+    sub-run-length
+    sub-run-length-2
+    run-length-requires
     run-requires
-    add-t20
+    add-t19
     same-length
     same-length-2
     returns)

@@ -52,7 +52,7 @@ way-on-requires c κs =
     let r = start (ran (c .before .before .before .before .before .before)) .pre in
     let a = size-most (r .left) in
     let b = size-most (r .right) in
-    (omega (arith, g .within, a, r .left .high), omega (arith, g .within′, b, r .right .high))
+    (omega (arith, g .passed, g .within, g .within′, a, b, r .left .high, r .right .high), omega (arith, g .within, a, r .left .high), omega (arith, g .within′, b, r .right .high))
 
 add-turns : tie.Need-add-turns Inv-loop μ-loop
 add-turns c =
