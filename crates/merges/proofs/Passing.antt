@@ -6,7 +6,7 @@ use mathlib.Core.Path.{_≡_, _∙_}
 use lib.ListN.{length, getD, take, drop, length-take, length-drop}
 use lib.Seq.{getD-take, getD-drop}
 use Rattle.sparse.specs.Sound.{Rising, Split}
-use Rattle.merges.specs.Loops.{Passed}
+use Rattle.merges.specs.Loops.{Below, Passed}
 
 module _ (is : List ℕ) (p : ℕ) (h : p ≤ length is) where
   abbrev rest : List ℕ
@@ -23,9 +23,12 @@ module _ (is : List ℕ) (p : ℕ) (h : p ≤ length is) where
       let n = rest-length in
       rw (rest-read i (omega arith), rest-read j (omega arith)) (up (p + i) (p + j) (omega arith) (omega arith))
 
-  -- what is found below an index there is passed
-  pub passed-rest : (js : List ℕ) (q : ℕ) → q < length js → {r : ℕ} → Split rest r (getD js q 0) → Passed is p js q r
-  passed-rest js q l {r} s =
+  -- what is found below an index there is below it
+  pub below-rest : {k r : ℕ} → Split rest r k → Below is p k r
+  below-rest s =
       let n = rest-length in
       let w = s .within in
-      (omega arith, λ j g. (l, rw (rest-read j (omega arith)) at (s .low j g)))
+      (omega arith, λ j g. rw (rest-read j (omega arith)) at (s .low j g))
+
+pub passed-by : (is : List ℕ) (p : ℕ) (js : List ℕ) (q r : ℕ) → q < length js → Below is p (getD js q 0) r → Passed is p js q r
+passed-by is p js q r l h = (h .0, λ j g. (l, h .1 j g))

@@ -34,6 +34,10 @@ opOf false = Add
 
 -- ---- products
 
--- the r indexes from p on are below the other side's index q
+-- the r indexes from p on are below k
+abbrev pub Below : List ℕ → ℕ → ℕ → ℕ → Type 0
+Below is p k r = (p + r ≤ length is) × ((j : ℕ) → j < r → getD is (p + j) 0 < k)
+
+-- they are below the other side's index q
 abbrev pub Passed : List ℕ → ℕ → List ℕ → ℕ → ℕ → Type 0
 Passed is p js q r = (p + r ≤ length is) × ((j : ℕ) → j < r → (q < length js) × (getD is (p + j) 0 < getD js q 0))

@@ -11,7 +11,7 @@ ghost use Rattle.sparse.specs.Vectors.{vector};
 ghost use Rattle.sparse.specs.Sound.{Rising};
 ghost use Rattle.merges.specs.Algebra.{joins, unionTurns, commonTurns, turnsOf, roomFor};
 ghost use Rattle.merges.specs.Calls.{Joins};
-ghost use Rattle.merges.specs.Loops.{Ready, Fills, opOf, Passed};
+ghost use Rattle.merges.specs.Loops.{Ready, Fills, opOf, Below, Passed};
 ghost use Rattle.merges.specs.declared.Op.the-variants.{Add, Sub, Mul};
 
 // How two places are put together.
@@ -92,20 +92,41 @@ fn quick_multiply(
     }
 }
 
-// How many indexes from p on are below the other side's index q. None are where that side has ended.
-fn count_below(is: &[u32], p: usize, js: &[u32], q: usize) -> usize
+// How many indexes from p on are below `place`, looked at one by one.
+fn scan_below(is: &[u32], p: usize, place: u32) -> usize
+    requires { ⌜ p ≤ length (now is) ⌝ }
+    ensures { λ r. ⌜ Below (now (is .entry)) p place r ⌝ }
+{
+    let mut k: usize = 0;
+    while p + k < is.len() {
+        let i = is[p + k];
+        if place <= i {
+            return k;
+        }
+        k += 1;
+    }
+    k
+}
+
+// How many indexes from p on are below the other side's index q. None are where that side has ended. Where they may be
+// many they are searched.
+fn count_below(far: bool, is: &[u32], p: usize, js: &[u32], q: usize) -> usize
     requires { ⌜ Rising (now is) × (p ≤ length (now is)) ⌝ }
     ensures { λ r. ⌜ Passed (now (is .entry)) p (now (js .entry)) q r ⌝ }
 {
     if js.len() <= q {
         return 0;
     }
-    walks::near_point(&is[p..is.len()], js[q])
+    if far {
+        return walks::near_point(&is[p..is.len()], js[q]);
+    }
+    scan_below(is, p, js[q])
 }
 
 // Writes the same, for vectors of which one has nearly all entries: after each turn those that come before the other
 // side's next are found, and passed at once.
 fn skip_multiply(
+    far: bool,
     dims: u32,
     ia: &[u32],
     va: &[f32],
@@ -123,9 +144,9 @@ fn skip_multiply(
     let mut turns: usize = 0;
     while p < ia.len() && q < ib.len() {
         let s = steps::mul_step(ia, va, p, ib, vb, q, oi, ov, len);
-        let a = count_below(ia, s.p, ib, s.q);
+        let a = count_below(far, ia, s.p, ib, s.q);
         p = s.p + a;
-        let b = count_below(ib, s.q, ia, p);
+        let b = count_below(far, ib, s.q, ia, p);
         q = s.q + b;
         len = s.n;
         turns += 1 + a + b;
@@ -149,10 +170,12 @@ fn multiply(
     requires { ⌜ Ready (vector dims (now ia) (now va)) (vector dims (now ib) (now vb)) (min (length (now ia)) (length (now ib))) (now oi) (now ov) ⌝ }
     ensures { λ r. ⌜ Fills (joins Mul (vector dims (now (ia .entry)) (now (va .entry))) (vector dims (now (ib .entry)) (now (vb .entry)))) (commonTurns (vector dims (now (ia .entry)) (now (va .entry))) (vector dims (now (ib .entry)) (now (vb .entry)))) (now (oi .entry)) (now (ov .entry)) r (now (oi .exit)) (now (ov .exit)) ⌝ }
 {
-    if (ia.len() + ib.len()) / 16 <= walks::smaller(ia.len(), ib.len()) {
+    let all = ia.len() + ib.len();
+    let fewer = walks::smaller(ia.len(), ib.len());
+    if all / 5 <= fewer {
         return quick_multiply(dims, ia, va, ib, vb, oi, ov);
     }
-    skip_multiply(dims, ia, va, ib, vb, oi, ov)
+    skip_multiply(fewer < all / 32, dims, ia, va, ib, vb, oi, ov)
 }
 
 // Writes what two vectors of equal dims give.

@@ -85,7 +85,7 @@ module _ {A : Type 0} {step : A → Cell → Cell → A} {k : ℕ} {acc : A} {is
 
 -- it takes few turns, and passes few entries of either side
 pub few : {a b : Vector} → Ready a b → (p q : ℕ) {k u v : ℕ} → p + k ≤ size a → u ≤ size a → v ≤ size b
-    → (k ≤ 1048575) × (u - p ≤ 1048575) × (v - q ≤ 1048575)
+    → (k ≤ 2097150) × (u - p ≤ 1048575) × (v - q ≤ 1048575)
 few r p q m l h =
     (omega (arith, size-most (r .left), r .left .high), omega (arith, size-most (r .left), r .left .high), omega (arith, size-most (r .right), r .right .high))
 

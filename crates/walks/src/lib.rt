@@ -179,7 +179,7 @@ pub enum Way {
 // The way to go on after so many turns that passed so many entries of either side. Turns that meet pass two. Any answer
 // is right, and one is fast.
 pub fn way_on(turns: usize, left: usize, right: usize) -> Way
-    requires { ⌜ (turns ≤ 1048575) × (left ≤ 1048575) × (right ≤ 1048575) ⌝ }
+    requires { ⌜ (turns ≤ 2097150) × (left ≤ 1048575) × (right ≤ 1048575) ⌝ }
 {
     let few = turns / 5;
     if left < few {

@@ -15,11 +15,11 @@ use Rattle.merges.proofs.skip_multiply.Statement.{statement}
 use Rattle.merges.proofs.skip_multiply.Tie as tie
 
 abbrev Inv-loop : tie.InvT-loop
-Inv-loop dims ia va ib vb oi₀ ov₀ p₀ q₀ len₀ turns₀ oi ov p q len turns =
+Inv-loop far dims ia va ib vb oi₀ ov₀ p₀ q₀ len₀ turns₀ oi ov p q len turns =
     Multiplying (vector dims ia va) (vector dims ib vb) oi₀ ov₀ oi ov p q len turns
 
 abbrev μ-loop : tie.MeasureT-loop
-μ-loop dims ia va ib vb oi₀ ov₀ p₀ q₀ len₀ turns₀ oi ov p q len turns = length ia + length ib - (p + q)
+μ-loop far dims ia va ib vb oi₀ ov₀ p₀ q₀ len₀ turns₀ oi ov p q len turns = length ia + length ib - (p + q)
 
 -- before the loop
 abbrev start : tie.At-loop Inv-loop μ-loop → tie.Start Inv-loop μ-loop
