@@ -2,11 +2,11 @@
 
 ghost use mathlib.Core.Path.{_≡_};
 ghost use mathlib.Core.List.{_++_};
-ghost use Prim.Native.Nat.{_≤_, _<_, _*_, _+_, _^_};
+ghost use Prim.Native.Nat.{_≤_, _<_, _*_, _+_, _/_, _%_, _^_};
 ghost use lib.ListN.{length, drop};
-ghost use Rattle.places.specs.Below.{one, listBelow};
+ghost use Rattle.places.specs.Below.{listBelow};
 ghost use Rattle.bits.specs.Bits.{bitAt, cut, wordFrom};
-ghost use Rattle.bit_slices.specs.Loops.{Gathers};
+ghost use Rattle.bit_slices.specs.Loops.{joined, Last, Gathers};
 
 // Writes `n` clear words to the front of `out`.
 pub fn clear(n: usize, out: &mut [u64])
@@ -29,40 +29,61 @@ pub fn bit_at(words: &[u64], i: usize) -> bool
     (word >> (i % 64)) % 2 == 1
 }
 
-// The bit at place `i`, and a clear one at and above `end`.
-fn bit_before(words: &[u64], i: usize, end: usize) -> bool
-    requires { ⌜ end ≤ 64 * length (now words) ⌝ }
-    ensures { λ r. ⌜ r ≡ cut end (bitAt (now (words .entry))) i ⌝ }
+// The upper part of a word, from bit `shift` on, and above it the lower part of the word after it. The remainder changes
+// nothing: without it the compiler makes one instruction of both shifts, which is slow on x86-64.
+fn join(low: u64, high: u64, shift: usize) -> u64
+    requires { ⌜ (0 < shift) × (shift < 64) ⌝ }
+    ensures { λ r. ⌜ r ≡ joined low high shift ⌝ }
 {
-    if i < end {
-        return bit_at(words, i);
-    }
-    false
+    (low >> shift) | (high << ((64 - shift) % 64))
 }
 
-// A word of k bits with bit k on top of them.
-fn with_bit(word: u64, k: usize, set: bool) -> u64
-    requires { ⌜ (word < 2 ^ k) × (k < 64) ⌝ }
-    ensures { λ r. ⌜ r ≡ word + one set * 2 ^ k ⌝ }
+// The 64 bits from bit `shift` of word `k` on, which is not the last one.
+fn word_at(words: &[u64], k: usize, shift: usize) -> u64
+    requires { ⌜ (k + 1 < length (now words)) × (shift < 64) ⌝ }
+    ensures { λ r. ⌜ r ≡ wordFrom (bitAt (now (words .entry))) (64 * k + shift) 64 ⌝ }
 {
-    if set {
-        return word | (1 << k);
+    if shift == 0 {
+        return words[k];
     }
-    word
+    join(words[k], words[k + 1], shift)
 }
 
-// The word of the 64 bits from place `from` on, of which those at and above `end` are clear.
+// The lowest `used` bits of a word; the others are clear.
+fn lowest(word: u64, used: usize) -> u64
+    requires { ⌜ (0 < used) × (used ≤ 64) ⌝ }
+    ensures { λ r. ⌜ r ≡ word % 2 ^ used ⌝ }
+{
+    let unused = 64 - used;
+    (word << unused) >> unused
+}
+
+// The word of the 64 bits from place `from` on, of which those at and above `end` are clear. The word that has the last one
+// below `end` is the last that is read.
 fn gather(words: &[u64], from: usize, end: usize) -> u64
-    requires { ⌜ (end ≤ 64 * length (now words)) × (from ≤ 65536) ⌝ }
+    requires { ⌜ Last (now words) from end ⌝ }
     ensures { λ r. ⌜ r ≡ wordFrom (cut end (bitAt (now (words .entry)))) from 64 ⌝ }
 {
-    let mut word: u64 = 0;
-    let mut k: usize = 0;
-    while k < 64 {
-        word = with_bit(word, k, bit_before(words, from + k, end));
-        k += 1;
+    let k = from / 64;
+    let shift = from % 64;
+    if k < (end - 1) / 64 {
+        return lowest(word_at(words, k, shift), end - from);
     }
-    word
+    lowest(words[k] >> shift, end - from)
+}
+
+// Writes the bits from `start` on to the first `n` words of `out`, each of them whole.
+fn gather_whole(words: &[u64], start: usize, n: usize, out: &mut [u64])
+    requires { ⌜ (start / 64 + n < length (now words)) × (n ≤ length (now out)) ⌝ }
+    ensures { λ r. ⌜ now (out .exit) ≡ listBelow (λ j. wordFrom (bitAt (now (words .entry))) (start + 64 * j) 64) n ++ drop n (now (out .entry)) ⌝ }
+{
+    let first = start / 64;
+    let shift = start % 64;
+    let mut j: usize = 0;
+    while j < n {
+        out[j] = word_at(words, first + j, shift);
+        j += 1;
+    }
 }
 
 // Writes the bits from `start` up to `end` to the first `n` words of `out`.
@@ -70,9 +91,7 @@ pub fn gather_all(words: &[u64], start: usize, end: usize, n: usize, out: &mut [
     requires { ⌜ Gathers (now words) start end n (now out) ⌝ }
     ensures { λ r. ⌜ now (out .exit) ≡ listBelow (λ j. wordFrom (cut end (bitAt (now (words .entry)))) (start + 64 * j) 64) n ++ drop n (now (out .entry)) ⌝ }
 {
-    let mut j: usize = 0;
-    while j < n {
-        out[j] = gather(words, start + 64 * j, end);
-        j += 1;
-    }
+    let last = n - 1;
+    gather_whole(words, start, last, out);
+    out[last] = gather(words, start + 64 * last, end);
 }

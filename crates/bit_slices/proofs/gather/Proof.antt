@@ -1,65 +1,67 @@
--- `bit_slices::gather` meets its contract. The loop's invariant: the word has the first k bits. The measure is the number of bits left. Assumes nothing.
+-- `bit_slices::gather` meets its contract: the bits are in one word or in two neighbours, and those at and above the end are dropped. Assumes nothing.
 use borrow.Author.Needs.{needs}
-use native.Mathlib.Numerals.{add-one}
 use native.Mathlib.Omega.{arith}
-use Prim.Native.Nat.{_-_, _≤_}
-use mathlib.Core.Path.{_≡_}
-use Rattle.bits.specs.Bits.{bitAt, cut, wordFrom}
-use Rattle.bits.proofs.Bits.{word-lt}
+use Prim.Native.Nat.{_+_, _-_, _*_, _/_, _%_, _^_}
+use mathlib.Core.Path.{_≡_, _∙_}
+use Rattle.bits.specs.Bits.{bitAt}
+use Rattle.bit_slices.proofs.Joins.{upper, below}
 use Rattle.bit_slices.proofs.gather.Statement.{statement}
 use Rattle.bit_slices.proofs.gather.Tie as tie
 
-abbrev Inv-loop : tie.InvT-loop
-Inv-loop words from end word₀ k₀ word k = (k ≤ 64) × (word ≡ wordFrom (cut end (bitAt words)) from k)
+sub-if1 : tie.Need-sub-if1
+sub-if1 c = search needs
 
-abbrev μ-loop : tie.MeasureT-loop
-μ-loop words from end word₀ k₀ word k = 64 - k
+word-at-requires : tie.Need-word-at-requires
+word-at-requires c κs = search needs
 
-loop-holds : tie.Need-loop-holds Inv-loop μ-loop
-unfolding wordFrom
-loop-holds c = search needs
+sub-lowest : tie.Need-sub-lowest
+sub-lowest c = search needs
 
-add-bit-before : tie.Need-add-bit-before Inv-loop μ-loop
-add-bit-before c = search needs
+lowest-requires : tie.Need-lowest-requires
+lowest-requires c κs = search needs
 
-bit-before-requires : tie.Need-bit-before-requires Inv-loop μ-loop
-bit-before-requires c κs = search needs
-
-with-bit-requires : tie.Need-with-bit-requires Inv-loop μ-loop
-with-bit-requires c κs =
-    let a = c .before .before .before .before .args in
-    let l = c .before .before .loop in
-    (rw (l .inv .1) (word-lt (cut (a .end) (bitAt (a .words .now))) (l .k) (a .from)), omega arith)
-
-add-k : tie.Need-add-k Inv-loop μ-loop
-add-k c = search needs
-
-loop-less : tie.Need-loop-less Inv-loop μ-loop
-loop-less c = search needs
-
-loop-again : tie.Need-loop-again Inv-loop μ-loop
-unfolding wordFrom
-loop-again c =
-    let a = c .before .before .before .before .before .args in
-    let l = c .before .before .before .loop in
-    (omega arith, rw (add-one (l .k), c .with-bit .ensures, c .before .bit-before .ensures, l .inv .1))
-
-returns : tie.Need-returns Inv-loop μ-loop
+returns : tie.Need-returns
 returns c =
-    let e : c .before .loop .k ≡ 64 = omega arith in
-    rw e at (c .before .loop .inv .1)
+    let a = c .before .before .before .before .args in
+    let p : 64 * (a .from / 64) + a .from % 64 ≡ a .from = omega arith in
+    rw (c .lowest .ensures, c .before .word-at .ensures, p)
+    (below (bitAt (a .words .now)) (a .from) 64 (a .end) (omega arith) (omega arith) (omega arith))
+
+mul-lowest : tie.Need-mul-lowest
+mul-lowest c = search needs
+
+shared-slice-read-lowest : tie.Need-shared-slice-read-lowest
+shared-slice-read-lowest c = search needs
+
+shr-lowest : tie.Need-shr-lowest
+shr-lowest c = search needs
+
+sub-lowest-2 : tie.Need-sub-lowest-2
+sub-lowest-2 c = search needs
+
+lowest-requires-2 : tie.Need-lowest-requires-2
+lowest-requires-2 c κs = search needs
+
+returns-2 : tie.Need-returns-2
+returns-2 c =
+    let a = c .before .before .before .before .args in
+    let p : 64 * (a .from / 64) + a .from % 64 ≡ a .from = omega arith in
+    let fits = c .before .shared-slice-known2 .given (a .from / 64) in
+    rw (c .lowest2 .ensures, upper (a .words .now) (a .from / 64) (a .from % 64) (omega arith) (omega (arith, fits)), p)
+    (below (bitAt (a .words .now)) (a .from) (64 - a .from % 64) (a .end) (omega arith) (omega arith) (omega arith))
 
 pub gather-spec : {M : Type 1} → statement M
 gather-spec =
     tie.close
     (tie.spec
-    Inv-loop
-    μ-loop
-    loop-holds
-    add-bit-before
-    bit-before-requires
-    with-bit-requires
-    add-k
-    loop-less
-    loop-again
-    returns)
+    sub-if1
+    word-at-requires
+    sub-lowest
+    lowest-requires
+    returns
+    mul-lowest
+    shared-slice-read-lowest
+    shr-lowest
+    sub-lowest-2
+    lowest-requires-2
+    returns-2)

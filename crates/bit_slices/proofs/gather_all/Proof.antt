@@ -1,69 +1,56 @@
--- `bit_slices::gather_all` meets its contract. The loop's invariant: the first j words are gathered, in front of what is left of the old output.
--- The measure is the number of words left. Assumes nothing.
+-- `bit_slices::gather_all` meets its contract: the whole words, and then the last one. Assumes nothing.
 use borrow.Author.Needs.{needs}
 use native.Mathlib.Omega.{arith}
-use Prim.Native.Nat.{_+_, _-_, _*_, _≤_}
+use Prim.Native.Nat.{_+_, _-_}
 use mathlib.Core.Path.{_≡_}
-use Rattle.places.proofs.Below.{Wrote, wrote-none, wrote-more, wrote-length}
-use Rattle.bits.specs.Bits.{bitAt, cut, wordFrom}
+use Rattle.bits.specs.Bits.{bitAt}
+use Rattle.bit_slices.proofs.Joins.{gathered}
 use Rattle.bit_slices.proofs.gather_all.Statement.{statement}
 use Rattle.bit_slices.proofs.gather_all.Tie as tie
 
-abbrev Inv-loop : tie.InvT-loop
-Inv-loop words start end n out₀ j₀ out j = (j ≤ n) × Wrote (λ i. wordFrom (cut end (bitAt words)) (start + 64 * i) 64) out₀ out j
+sub-last : tie.Need-sub-last
+sub-last c = search needs
 
-abbrev μ-loop : tie.MeasureT-loop
-μ-loop words start end n out₀ j₀ out j = n - j
+gather-whole-requires : tie.Need-gather-whole-requires
+gather-whole-requires c κs = search needs
 
-loop-holds : tie.Need-loop-holds Inv-loop μ-loop
-loop-holds c = (omega arith, wrote-none)
-
-mul-gather : tie.Need-mul-gather Inv-loop μ-loop
+mul-gather : tie.Need-mul-gather
 mul-gather c = search needs
 
-add-gather : tie.Need-add-gather Inv-loop μ-loop
+add-gather : tie.Need-add-gather
 add-gather c = search needs
 
-gather-requires : tie.Need-gather-requires Inv-loop μ-loop
+gather-requires : tie.Need-gather-requires
 gather-requires c κs = search needs
 
-mul-out : tie.Need-mul-out Inv-loop μ-loop
+mul-out : tie.Need-mul-out
 mul-out c = search needs
 
-slice-write-out : tie.Need-slice-write-out Inv-loop μ-loop
-slice-write-out c = omega (arith, wrote-length (c .before .before .loop .inv .1))
+slice-write-out : tie.Need-slice-write-out
+slice-write-out c = search needs
 
-add-j : tie.Need-add-j Inv-loop μ-loop
-add-j c = search needs
+same-length : tie.Need-same-length
+same-length c = search needs
 
-loop-less : tie.Need-loop-less Inv-loop μ-loop
-loop-less c = search needs
-
-loop-again : tie.Need-loop-again Inv-loop μ-loop
-loop-again c = (omega arith, wrote-more (c .before .before .loop .inv .1) (omega arith) (c .gather .ensures))
-
-same-length : tie.Need-same-length Inv-loop μ-loop
-same-length c = wrote-length (c .before .loop .inv .1)
-
-returns : tie.Need-returns Inv-loop μ-loop
+returns : tie.Need-returns
 returns c =
-    let e : c .before .loop .j ≡ c .before .before .before .before .args .n = omega arith in
-    rw e at (c .before .loop .inv .1 .front)
+    let a = c .before .before .before .before .before .before .before .args in
+    let e : a .n - 1 + 1 ≡ a .n = omega arith in
+    rw e at
+    (gathered (bitAt (a .words .now)) (a .start) (a .end) (a .n - 1) (a .out .now) (omega arith) (omega arith)
+    (c .before .before .before .gather-whole .ensures)
+    (c .gather .ensures))
 
 pub gather-all-spec : {M : Type 1} → statement M
 gather-all-spec =
     tie.close
     (tie.spec
-    Inv-loop
-    μ-loop
-    loop-holds
+    sub-last
+    gather-whole-requires
     mul-gather
     add-gather
     gather-requires
     mul-out
     slice-write-out
-    add-j
-    loop-less
-    loop-again
     same-length
     returns)

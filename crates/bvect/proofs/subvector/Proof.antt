@@ -86,8 +86,9 @@ gather-all-requires c κs =
     let p = part t in
     let whole = sound _ _ (passed (t .before .before .before)) in
     record {
+      some = omega (arith, p .rising);
       there = omega (arith, whole .long, p .within);
-      near = omega (arith, whole .high, p .within, p .rising, c .before .before .words-for .ensures);
+      size = c .before .before .words-for .ensures;
       room = omega arith;
     }
 

@@ -1,0 +1,2 @@
+-- Laws of words that are cut and joined.
+pub mod Joins
