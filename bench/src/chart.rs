@@ -1,7 +1,7 @@
 //! The chart: a bar for each case and build, ours by the Rust. A thin line goes on to ours by the better, where the
 //! target is of that. Light and dark are chosen by whoever shows it.
 use crate::results::Results;
-use crate::targets::{judged, Judged};
+use crate::targets::{judged, shown, Judged};
 use std::fmt::Write;
 
 const WIDTH: f64 = 980.0;
@@ -74,9 +74,10 @@ fn bar(svg: &mut String, kind: &str, case: &Judged, y: f64) {
     let end = target.filter(|&target| ratio < target && target < ratio + 0.09).unwrap_or(ratio);
     writeln!(
         svg,
-        r#"<text class="soft" font-size="9.5" x="{:.1}" y="{:.1}">{cut}{ratio:.2}</text>"#,
+        r#"<text class="soft" font-size="9.5" x="{:.1}" y="{:.1}">{cut}{}</text>"#,
         x(end) + 5.0,
-        y + BAR - 0.5
+        y + BAR - 0.5,
+        shown(ratio)
     )
     .unwrap();
 }

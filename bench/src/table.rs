@@ -1,7 +1,7 @@
 //! The tables of a run, as Markdown that also reads well as text.
 use crate::cases::{grouped, growth::SIZES};
 use crate::results::{Measured, Results};
-use crate::targets::{judged, Judged};
+use crate::targets::{judged, shown as ratio, verdict, Judged};
 use crate::timing::{COPY, OURS, OWNED, RUST};
 
 /// A table with columns of even width; numbers stand to the right. Without rows it is nothing.
@@ -32,15 +32,6 @@ fn ns(time: f64) -> String {
     grouped(time.round() as u64)
 }
 
-/// Two digits after the point; three where the number is small.
-fn ratio(number: f64) -> String {
-    if number < 0.1 {
-        format!("{number:.3}")
-    } else {
-        format!("{number:.2}")
-    }
-}
-
 /// A case by a name, the times of both sides, and the ratio with its quartiles.
 fn named(name: String, m: &Measured) -> Vec<String> {
     let mut row = vec![name];
@@ -53,13 +44,15 @@ fn figures(m: &Measured) -> [String; 4] {
     [ns(m.ns), ns(m.other_ns), ratio(m.ratio.median), quartiles]
 }
 
+fn at_most(m: &Measured) -> String {
+    m.target.map_or(String::new(), |target| target.to_string())
+}
+
 /// Ours against the Rust, with what is to be reached.
 fn against_rust(results: &Results) -> String {
     let row = |case: Judged| {
         let mut row = named(case.by_rust.case.clone(), case.by_rust);
-        let met = case.is_met().map_or("", |met| if met { "met" } else { "missed" });
-        let target = case.by_rust.target.map_or(String::new(), |target| target.to_string());
-        row.extend([case.by_better.map_or(String::new(), ratio), target, met.into()]);
+        row.extend([case.by_better.map_or(String::new(), ratio), at_most(case.by_rust), verdict(case.is_met()).into()]);
         row
     };
     let rows: Vec<_> = judged(results).map(row).collect();
@@ -78,33 +71,53 @@ fn owned(results: &Results) -> String {
     table(&["case", "ours, ns", "Rust, ns", "ratio", "quartiles"], &rows)
 }
 
-/// Ours against others, by the plain build and, if there is one, by that for the processor. A name is given to each
-/// row that is wanted.
-fn beside(other: &str, plain: &Results, native: Option<&Results>, name: fn(&Measured) -> Option<String>) -> String {
+/// The rows of a table of ours against others, and which others.
+struct Others {
+    name: &'static str,
+    /// The name of a row, if it is wanted.
+    row: fn(&Measured) -> Option<String>,
+    /// Whether something is to be reached.
+    has_targets: bool,
+}
+
+/// Ours against others, by the plain build and, if there is one, by that for the processor.
+fn beside(others: &Others, plain: &Results, native: Option<&Results>) -> String {
+    let cells = |m: &Measured| {
+        let mut cells = figures(m).to_vec();
+        if others.has_targets {
+            let is_met = m.target.map(|target| target.is_met_by(m.ratio.median));
+            cells.extend([at_most(m), verdict(is_met).into()]);
+        }
+        cells
+    };
     let row = |m: &Measured| {
-        let mut row = named(name(m)?, m);
+        let mut row = vec![(others.row)(m)?];
+        row.extend(cells(m));
         if let Some(n) = native.and_then(|native| native.of(&m.side, &m.other).find(|n| n.case == m.case)) {
-            row.extend(figures(n));
+            row.extend(cells(n));
         }
         Some(row)
     };
     let rows: Vec<_> = plain.measured.iter().filter(|m| m.side == OURS).filter_map(row).collect();
-    let (its, its_here) = (format!("{other}, ns"), format!("{other}, this CPU"));
-    let mut head = vec!["case", "ours, ns", &its, "ratio", "quartiles"];
-    if native.is_some() {
-        head.extend(["ours, this CPU", &its_here, "ratio", "quartiles"]);
+    let mut head = vec!["case".to_string()];
+    for unit in ["ns", "this CPU"].iter().take(1 + native.iter().count()) {
+        head.extend([format!("ours, {unit}"), format!("{}, {unit}", others.name), "ratio".into(), "quartiles".into()]);
+        if others.has_targets {
+            head.extend(["at most".into(), String::new()]);
+        }
     }
-    table(&head, &rows)
+    table(&head.iter().map(String::as_str).collect::<Vec<_>>(), &rows)
 }
 
 fn peers(plain: &Results, native: Option<&Results>) -> String {
-    let name = |m: &Measured| (m.other != RUST && m.other != COPY).then(|| format!("{}: {}", m.other, m.case));
-    beside("peer", plain, native, name)
+    let row = |m: &Measured| (m.other != RUST && m.other != COPY).then(|| format!("{}: {}", m.other, m.case));
+    beside(&Others { name: "peer", row, has_targets: false }, plain, native)
 }
 
 /// Ours against a plain copy of the answer.
 fn copies(plain: &Results, native: Option<&Results>) -> String {
-    beside("copy", plain, native, |m| (m.other == COPY).then(|| m.case.clone()))
+    let row = |m: &Measured| (m.other == COPY).then(|| m.case.clone());
+    beside(&Others { name: "copy", row, has_targets: true }, plain, native)
 }
 
 fn growth(results: &Results) -> String {

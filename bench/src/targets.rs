@@ -1,6 +1,6 @@
 //! What is to be reached, and whether it is.
 use crate::results::{Measured, Results};
-use crate::timing::{EIGEN, OURS, RUST};
+use crate::timing::{COPY, EIGEN, OURS, RUST};
 use std::fmt::{Display, Formatter, Result};
 
 /// What all sides are built for.
@@ -28,6 +28,36 @@ pub enum Of {
     Rust,
     /// The faster one of the Rust and Eigen. Without Eigen it is the Rust.
     Better,
+    /// A plain copy of the answer.
+    Copy,
+}
+
+impl Of {
+    fn name(self) -> &'static str {
+        match self {
+            Of::Rust => "the Rust",
+            Of::Better => "the better",
+            Of::Copy => "the copy",
+        }
+    }
+
+    /// The side against which the target is kept.
+    pub fn side(self) -> &'static str {
+        match self {
+            Of::Rust | Of::Better => RUST,
+            Of::Copy => COPY,
+        }
+    }
+}
+
+/// A ratio as it is shown and compared: two digits after the point, and up to four where it is small.
+pub fn shown(ratio: f64) -> String {
+    let digits = match ratio {
+        r if r < 0.01 => 4,
+        r if r < 0.1 => 3,
+        _ => 2,
+    };
+    format!("{ratio:.digits$}")
 }
 
 /// A ratio that is to be reached.
@@ -45,20 +75,34 @@ pub fn of_better(at_most: f64) -> Option<Target> {
     Some(Target { at_most, of: Of::Better })
 }
 
+pub fn of_copy(at_most: f64) -> Option<Target> {
+    Some(Target { at_most, of: Of::Copy })
+}
+
 impl Display for Target {
     fn fmt(&self, f: &mut Formatter) -> Result {
-        let of = if self.of == Of::Rust { "the Rust" } else { "the better" };
-        write!(f, "{:.2} of {of}", self.at_most)
+        write!(f, "{} of {}", shown(self.at_most), self.of.name())
     }
 }
 
 impl Target {
     /// Reads what is shown.
     pub fn read(text: &str) -> Option<Self> {
-        let (at_most, of) = text.split_once(" of ")?;
-        let of = if of == "the Rust" { Of::Rust } else { Of::Better };
+        let (at_most, name) = text.split_once(" of ")?;
+        let of = [Of::Rust, Of::Better, Of::Copy].into_iter().find(|of| of.name() == name)?;
         Some(Target { at_most: at_most.parse().ok()?, of })
     }
+
+    /// Whether a ratio is at most this, both as they are shown.
+    pub fn is_met_by(&self, ratio: f64) -> bool {
+        let digits = |number: f64| shown(number).parse::<f64>().expect("a ratio");
+        digits(ratio) <= digits(self.at_most)
+    }
+}
+
+/// How that is said; nothing without a target.
+pub fn verdict(is_met: Option<bool>) -> &'static str {
+    is_met.map_or("", |met| if met { "met" } else { "missed" })
 }
 
 /// A case of ours by the Rust, and what its target is held against.
@@ -75,9 +119,7 @@ impl Judged<'_> {
     }
 
     pub fn is_met(&self) -> Option<bool> {
-        // As the table shows it: two digits.
-        let digits = |number: f64| (number * 100.0).round();
-        self.by_rust.target.map(|target| digits(self.ratio()) <= digits(target.at_most))
+        self.by_rust.target.map(|target| target.is_met_by(self.ratio()))
     }
 }
 
@@ -93,7 +135,7 @@ pub fn judged(results: &Results) -> impl Iterator<Item = Judged<'_>> {
 
 #[cfg(test)]
 mod tests {
-    use super::{judged, of_better, of_rust, Target, EIGEN, OURS, RUST};
+    use super::{judged, of_better, of_copy, of_rust, shown, Target, EIGEN, OURS, RUST};
     use crate::results::{Measured, Results};
     use crate::timing::Spread;
 
@@ -119,5 +161,21 @@ mod tests {
         assert_eq!(is_met(of_better(0.8), 0.9, Some(0.7)), Some(false));
         assert_eq!(is_met(of_better(0.8), 0.804, None), Some(true));
         assert_eq!(is_met(None, 0.7, Some(0.7)), None);
+    }
+
+    #[test]
+    fn small_ratios_have_more_digits() {
+        let ratios = [0.00034, 0.0034, 0.0996, 0.1, 1.0].map(shown);
+        assert_eq!(ratios, ["0.0003", "0.0034", "0.100", "0.10", "1.00"]);
+        assert_eq!(is_met(of_rust(0.003), 0.00304, None), Some(true));
+        assert_eq!(is_met(of_rust(0.003), 0.0034, None), Some(false));
+    }
+
+    #[test]
+    fn a_target_is_read_as_it_is_shown() {
+        for target in [of_rust(0.003), of_better(0.8), of_copy(2.0)].into_iter().flatten() {
+            assert_eq!(Target::read(&target.to_string()), Some(target));
+        }
+        assert_eq!(Target::read("-"), None);
     }
 }

@@ -2,7 +2,7 @@
 use super::{copying, Bench};
 use crate::data::{Maker, BITS};
 use crate::peers::{self, Roaring};
-use crate::targets::of_rust;
+use crate::targets::{of_copy, of_rust};
 use crate::timing::{Side, COPY, OURS, OWNED, RUST};
 use base::scalar::bit;
 use base::vector::{BVectBorrowed, BVectOwned, VectorBorrowed, VectorOwned};
@@ -69,8 +69,8 @@ fn count<'a>(
     sides
 }
 
-fn slice(words: &[u64]) -> Vec<Side<'_>> {
-    let bounds = || 3..65_003;
+fn slice(words: &[u64], start: u32) -> Vec<Side<'_>> {
+    let bounds = move || start..start + 65_000;
     let (a, x) = (ours(words), Rust::new(BITS, words));
     let mut out = vec![0; words.len()];
     let its = x.subvector(bounds()).expect("good bounds");
@@ -86,6 +86,7 @@ fn slice(words: &[u64]) -> Vec<Side<'_>> {
         Side::new(OWNED, move || {
             black_box(black_box(a).subvector(bounds()).expect("good bounds"));
         }),
+        Side::new(COPY, copying(its.as_borrowed().data())),
     ]
 }
 
@@ -125,5 +126,8 @@ pub fn run(bench: &mut Bench) {
     bench.case("ones of AND, 65,535 bits", target, || count!(&two, operator_dot, Roaring::OnesOfAnd));
     bench.case("Hamming, 65,535 bits", target, || count!(&two, operator_hamming, Roaring::Hamming));
     bench.case("Jaccard, 65,535 bits", target, || count!(&two, operator_jaccard, Roaring::Jaccard));
-    bench.case("bit slice, 65,000 bits from bit 3", None, || slice(&two[0]));
+    for start in [0, 3, 63, 64] {
+        let targets = [of_rust(0.003), of_copy(2.0)].into_iter().flatten();
+        bench.case(&format!("bit slice, 65,000 bits from bit {start}"), targets, || slice(&two[0], start));
+    }
 }

@@ -57,15 +57,18 @@ impl Bench {
         name.contains(&self.only)
     }
 
-    /// A case: ours, the Rust, and whoever else there is.
-    fn case<'a>(&mut self, name: &str, target: Option<Target>, sides: impl FnOnce() -> Vec<Side<'a>>) {
+    /// A case: ours, the Rust, and whoever else there is; and what is to be reached, of one side at most once.
+    fn case<'a, T>(&mut self, name: &str, targets: T, sides: impl FnOnce() -> Vec<Side<'a>>)
+    where
+        T: IntoIterator<Item = Target>,
+    {
         if !self.wants(name) {
             return;
         }
         let mut sides = sides();
         self.watched.0 += 1;
         self.watched.1 += allocations::of(|| sides[0].once());
-        self.timed(name, target, &mut sides);
+        self.timed(name, targets, &mut sides);
     }
 
     /// A case in which ours grows, and so allocates.
@@ -75,7 +78,8 @@ impl Bench {
         }
     }
 
-    fn timed(&mut self, name: &str, target: Option<Target>, sides: &mut [Side]) {
+    fn timed(&mut self, name: &str, targets: impl IntoIterator<Item = Target>, sides: &mut [Side]) {
+        let targets: Vec<Target> = targets.into_iter().collect();
         let rounds = Rounds::of(sides);
         assert!(sides[0].name == OURS && sides[1].name == RUST);
         for k in 1..sides.len() {
@@ -83,7 +87,7 @@ impl Bench {
             let (side, other) = if sides[k].name == OWNED { (k, 1) } else { (0, k) };
             let measured = Measured {
                 case: name.into(),
-                target: target.filter(|_| k == 1),
+                target: targets.iter().copied().find(|target| target.of.side() == sides[k].name),
                 side: sides[side].name.into(),
                 other: sides[other].name.into(),
                 ns: rounds.median(side),

@@ -134,6 +134,46 @@ fn bad_bounds_and_room() {
     assert_eq!(out, [3, OLD, OLD]);
 }
 
+/// The words of the bits of a part, read one by one.
+fn bit_by_bit(vector: BVectBorrowed<'_>, start: u32, len: u32) -> Vec<u64> {
+    let mut words = vec![0; len.div_ceil(64) as usize];
+    for i in (0..len).filter(|i| vector.get(start + i).unwrap()) {
+        words[i as usize / 64] |= 1 << (i % 64);
+    }
+    words
+}
+
+/// A part is held to its bits. What is lent behind its words stays.
+fn expect_part(vector: BVectBorrowed<'_>, start: u32, len: u32) {
+    let mut out = vec![OLD; len.div_ceil(64) as usize + 2];
+    let part = vector.subvector_into(start..start + len, &mut out).unwrap();
+    assert_eq!(part.dims(), len, "{start} {len}");
+    let mut expected = bit_by_bit(vector, start, len);
+    expected.extend([OLD; 2]);
+    assert_eq!(out, expected, "{start} {len}");
+}
+
+#[test]
+fn parts_of_every_start_and_length() {
+    let words = [0x9e37_79b9_7f4a_7c15, 0xf39c_c060_5ced_c834, 0x1082_276b_f3a2_7251, 0xf86c_6a11_d0c1_8e95, 0xb];
+    let vector = bits(260, &words);
+    for start in 0..=130 {
+        for len in 1..=130 {
+            expect_part(vector, start, len);
+        }
+    }
+}
+
+#[test]
+fn the_end_of_the_longest_vector() {
+    let mut words: Vec<u64> = (1..=1024).map(|i: u64| i.wrapping_mul(0x9e37_79b9_7f4a_7c15)).collect();
+    words[1023] >>= 1;
+    let vector = bits(65_535, &words);
+    for len in [1, 63, 64, 65, 65_535] {
+        expect_part(vector, 65_535 - len, len);
+    }
+}
+
 /// P10, and dims that differ.
 #[test]
 fn equality_and_order() {
