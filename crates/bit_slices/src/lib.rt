@@ -38,7 +38,7 @@ fn join(low: u64, high: u64, shift: usize) -> u64
     (low >> shift) | (high << ((64 - shift) % 64))
 }
 
-// The 64 bits from bit `shift` of word `k` on, which is not the last one.
+// The 64 bits from bit `shift` of word `k` on: that word, or it and the next one. Word `k` is not the last.
 fn word_at(words: &[u64], k: usize, shift: usize) -> u64
     requires { ⌜ (k + 1 < length (now words)) × (shift < 64) ⌝ }
     ensures { λ r. ⌜ r ≡ wordFrom (bitAt (now (words .entry))) (64 * k + shift) 64 ⌝ }
@@ -72,7 +72,7 @@ fn gather(words: &[u64], from: usize, end: usize) -> u64
     lowest(words[k] >> shift, end - from)
 }
 
-// Writes the bits from `start` on to the first `n` words of `out`, each of them whole.
+// Writes the bits from `start` on to the first `n` words of `out`, 64 to each.
 fn gather_whole(words: &[u64], start: usize, n: usize, out: &mut [u64])
     requires { ⌜ (start / 64 + n < length (now words)) × (n ≤ length (now out)) ⌝ }
     ensures { λ r. ⌜ now (out .exit) ≡ listBelow (λ j. wordFrom (bitAt (now (words .entry))) (start + 64 * j) 64) n ++ drop n (now (out .entry)) ⌝ }
