@@ -30,7 +30,7 @@ pub fn bit_at(words: &[u64], i: usize) -> bool
 }
 
 // The upper part of a word, from bit `shift` on, and above it the lower part of the word after it. The remainder changes
-// nothing: without it the compiler makes one instruction of both shifts, which is slow on x86-64.
+// nothing: without it the compiler makes one instruction of both shifts on x86-64, a word at a time, and no vectors.
 fn join(low: u64, high: u64, shift: usize) -> u64
     requires { ⌜ (0 < shift) × (shift < 64) ⌝ }
     ensures { λ r. ⌜ r ≡ joined low high shift ⌝ }

@@ -15,7 +15,7 @@ shl-result : tie.Need-shl-result
 shl-result c = search needs
 
 returns : tie.Need-returns
-returns c = joins (c .args .low) (c .args .high) (c .args .shift) _ (omega arith) (omega arith)
+returns c = joins _ _ _ _ (omega arith) (omega arith)
 
 pub join-spec : {M : Type 1} → statement M
 join-spec = tie.close (tie.spec shr-result sub-result shl-result returns)
