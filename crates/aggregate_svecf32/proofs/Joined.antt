@@ -119,7 +119,7 @@ module _ (h : Header) (p : Pair) (v : Vector) (more : ℕ) (begun : h .begun ≡
         left = f .sound;
         right = g .row;
         same = same;
-        spare = ⊎-elim (λ l. inl (omega (arith, f .room))) (λ l. inr l) (room-or-all h (size v) e);
+        spare = ⊎-elim (λ l. omega (arith, f .room)) (λ l. omega arith) (room-or-all h (size v) e);
         long = omega (arith, f .fits, part-length (h .start) (whole h) (p .indexes) (omega (arith, i .indexes)));
         long′ = omega (arith, f .fits, part-length (h .start) (whole h) (p .values) (omega (arith, i .values)));
       })

@@ -1,27 +1,25 @@
 -- A merge of a row with entries that were moved to the far end of the room: it reads them there, writes what they give to the front, and never
 -- writes over one that it has not read. Assumes nothing.
-use Prim.Native.Nat.{ℕ, zero, suc, _+_, _-_, _≤_, _<_}
+use Prim.Native.Nat.{ℕ, suc, _+_, _-_, _≤_, _<_}
 use native.Mathlib.Nat.{add-zero}
 use native.Mathlib.Omega.{arith}
 use mathlib.Core.List.{List, _++_}
-use mathlib.Core.Logic.{⊎-elim}
 use mathlib.Core.Path.{_≡_, refl, sym, ap, _∙_}
-use lib.ListN.{length, getD, take, drop, length-drop}
+use lib.ListN.{length, take, drop, length-drop}
 use lib.Seq.{take-at, length-take-le, getD-drop}
 use lib.Ieee.{Float}
 use Rattle.places.specs.Below.{countBelow}
-use Rattle.places.proofs.Below.{le-or-lt}
 use Rattle.sparse.specs.Cells.{indexesBelow, valuesBelow}
 use Rattle.sparse.specs.Vectors.{Vector, vector, size, at, inUnion}
-use Rattle.sparse.specs.Sound.{Rising, Split, Sound}
+use Rattle.sparse.specs.Sound.{Sound}
 use Rattle.sparse.proofs.Checks.{size-most}
-use Rattle.sparse.proofs.Entries.{entries-most, as-many}
+use Rattle.sparse.proofs.Entries.{as-many}
 use Rattle.walks.specs.Walk.{Standing, Turned}
 use Rattle.walks.proofs.Stores.{written-lengths}
 use Rattle.walks.proofs.Walk.{Going}
 use Rattle.merges.specs.Algebra.{joins}
 use Rattle.merges.specs.declared.Op.the-variants.{Add}
-use Rattle.merges.proofs.Made.{joinAt, Made, Merging, merging-more, merging-end}
+use Rattle.merges.proofs.Made.{joinAt, Made, Merging, merging-more, merging-end, merging-fits}
 use Rattle.regions.specs.Regions.{part}
 use Rattle.regions.proofs.Stands.{past-front, stands-front}
 use Rattle.copies.specs.Copies.{Clear}
@@ -32,26 +30,6 @@ use Rattle.in_place.specs.Turns.{firstIndex, rowTurns}
 use Rattle.in_place.specs.Loops.{around, Raised, Grown}
 use Rattle.in_place.proofs.Rest.{turned-left, around-from}
 use Rattle.in_place.proofs.First.{first-most, first-split, written-before, turns-from}
-
--- rising indexes from p on that are not below f and are below d: at most d - f of them
-count-left : (is : List ℕ) (p f d : ℕ) → Rising is → Split is p f → ((j : ℕ) → j < length is → getD is j 0 < d) → f ≤ d
-    → length is + f ≤ d + p
-count-left is p f d up cut below le =
-    ⊎-elim
-    (λ h. omega (arith, cut .within))
-    (λ h.
-    let e : p + (length is - 1 - p) ≡ length is - 1 = omega arith in
-    let last = climbs (length is - 1 - p) (omega arith) in
-    omega (arith, rw e at last, below (length is - 1) (omega arith)))
-    (le-or-lt (length is) p)
-  where
-    climbs : (i : ℕ) → p + i < length is → f + i ≤ getD is (p + i) 0
-    climbs zero h = let e : p + 0 ≡ p = omega arith in rw e (omega (arith, cut .high p (omega arith) (omega arith)))
-    climbs (suc i) h = omega (arith, climbs i (omega arith), up (p + i) (p + suc i) (omega arith) h)
-
--- from dims on no entry is left
-ended : (v : Vector) → Sound v → {p k : ℕ} → Split (v .indexes) p k → v .dims ≤ k → size v ≤ p
-ended v s {p} cut h = ⊎-elim (λ l. l) (λ l. absurd (omega (arith, cut .high p (omega arith) l, s .below p l))) (le-or-lt (size v) p)
 
 -- the union places below the row's first index
 abbrev pub below : Vector → Vector → ℕ
@@ -114,19 +92,13 @@ module _ {d : ℕ} {b : Vector} {low gap cap : ℕ} {si : List ℕ} {sv : List F
     pub reached : at ≤ cap
     reached = omega (arith, c .stands, g .walk .left .within, r .far)
 
-    -- entries and places: no more are written than passed, and no more than places passed
-    written-most : n ≤ g .front
-    written-most = omega (arith, g .holds .wrote .count, entries-most (joinAt Add a b) (g .front))
+    -- in the room there is place for what is written and for all that is left of either side
+    fits : (n + size a ≤ cap + c .p) × (n + size b ≤ cap + q)
+    fits = let f = merging-fits sa sb (c .merging) (r .roomy .same) in (omega (arith, r .roomy .spare, f .0), omega (arith, r .roomy .spare, f .1))
 
     -- what is written does not reach what is read next
     pub clear : n ≤ at
-    clear =
-        ⊎-elim
-        (λ room. omega (arith, room, c .stands, c .merging .few, g .walk .right .within, r .far))
-        (λ all.
-        let few = count-left (a .indexes) (c .p) (g .front) d (sa .rising) (g .walk .left) (sa .below) (g .inside) in
-        omega (arith, all, c .stands, written-most, r .far, g .inside, few))
-        (r .roomy .spare)
+    clear = omega (arith, c .stands, r .far, fits .0)
 
     pub lengths : (length si′ ≡ length si) × (length sv′ ≡ length sv)
     lengths =
@@ -178,22 +150,8 @@ module _ {d : ℕ} {b : Vector} {low gap cap : ℕ} {si : List ℕ} {sv : List F
             more = omega (arith, c .stands, r .far);
           })
 
-      -- an entry is left, and its place
-      place-left : g .front < d
-      place-left =
-          ⊎-elim
-          (λ l.
-          let w = g .walk in
-          absurd (omega (arith, c .stands, r .far, ended a sa (w .left) l, ended b sb (w .right) (omega (arith, r .roomy .same)))))
-          (λ l. l)
-          (le-or-lt d (g .front))
-
       under : n < cap
-      under =
-          ⊎-elim
-          (λ room. omega (arith, room, c .stands, c .merging .few, r .far))
-          (λ all. omega (arith, all, written-most, place-left))
-          (r .roomy .spare)
+      under = omega (arith, c .stands, r .far, fits .0, fits .1)
 
       pub climbing-steady : Steady si′ sv′ at cap n (b .indexes) (b .values) q
       climbing-steady = record {

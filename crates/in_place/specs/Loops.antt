@@ -2,13 +2,14 @@
 -- cite these.
 use Prim.Native.Nat.{ℕ, _+_, _-_, _≤_}
 use mathlib.Core.List.{List, _++_}
-use mathlib.Core.Logic.{_⊎_}
 use mathlib.Core.Path.{_≡_}
 use lib.ListN.{length, take, drop}
 use lib.Ieee.{Float}
 use Rattle.sparse.specs.Vectors.{Vector, size}
 use Rattle.sparse.specs.Sound.{Split, Sound}
+use Rattle.merges.specs.Algebra.{roomFor}
 use Rattle.merges.specs.declared.Both.{Both}
+use Rattle.merges.specs.declared.Op.the-variants.{Add}
 use Rattle.regions.specs.Regions.{part, Stands}
 use Rattle.in_place.specs.Turns.{firstIndex}
 
@@ -30,13 +31,12 @@ pub record Shifted (si : List ℕ) (sv : List Float) (low len gap : ℕ) (si′ 
 
 -- ---- the merge
 
--- A state's entries a and a row b of equal dims passed; there is room for cap entries; and the union has no more than cap of them, since
--- there is room for both, or for every place.
+-- a state's entries a and a row b of equal dims passed; there is room for cap entries, and that is the room of their sum at least
 pub record Roomy (a b : Vector) (cap : ℕ) (si : List ℕ) (sv : List Float) : Type 0 where
   pub left : Sound a
   pub right : Sound b
   pub same : a .dims ≡ b .dims
-  pub spare : (size a + size b ≤ cap) ⊎ (cap ≡ a .dims)
+  pub spare : roomFor Add (a .dims) (size a) (size b) ≤ cap
   pub long : cap ≤ length si
   pub long′ : cap ≤ length sv
 

@@ -1,5 +1,5 @@
 -- The loop of a run. Assumes nothing.
-use Prim.Native.Nat.{ℕ, suc, _+_, _≤_, _<_}
+use Prim.Native.Nat.{ℕ, suc, _+_, _-_, _≤_, _<_, max}
 use native.Mathlib.Numerals.{add-one}
 use native.Mathlib.Omega.{arith}
 use mathlib.Core.List.{List}
@@ -18,35 +18,29 @@ use Rattle.merge_runs.specs.declared.Block.{Block}
 pub record Runs (join : Cell → Cell → Cell) (is : List ℕ) (vs : List Float) (p : ℕ) (js : List ℕ) (ws : List Float) (q n : ℕ)
     (oi : List ℕ) (ov : List Float) (oi′ : List ℕ) (ov′ : List Float) (u v m taken : ℕ) : Type 0 where
   pub chain : Chain join is vs js ws taken (step p q n) oi ov (step u v m) oi′ ov′
-  pub here : Running 0 is vs u js ws v m oi′ ov′
   pub long : length oi′ ≡ length oi
   pub long′ : length ov′ ≡ length ov
   pub passed : p + q + taken ≤ u + v
   pub left : u ≤ p + taken
   pub right : v ≤ q + taken
+  pub within : u ≤ length is
+  pub within′ : v ≤ length js
+  pub wrote : m ≤ n + taken
 
 module _ {join : Cell → Cell → Cell} {is : List ℕ} {vs : List Float} {p : ℕ} {js : List ℕ} {ws : List Float} {q n : ℕ} {oi : List ℕ}
-    {ov : List Float} {k : ℕ} (h : Running k is vs p js ws q n oi ov) where
+    {ov : List Float} {k room : ℕ} (h : Running k room is vs p js ws q n oi ov) where
   pub runs-start : Runs join is vs p js ws q n oi ov oi ov p q n 0
   runs-start =
       record {
         chain = none;
-        here = record {
-          even = h .even;
-          even′ = h .even′;
-          most = h .most;
-          most′ = h .most′;
-          left = omega (arith, h .left);
-          right = omega (arith, h .right);
-          few = h .few;
-          room = h .room;
-          room′ = h .room′;
-        };
         long = refl;
         long′ = refl;
         passed = omega arith;
         left = omega arith;
         right = omega arith;
+        within = omega (arith, h .left);
+        within′ = omega (arith, h .right);
+        wrote = omega arith;
       }
 
   module _ {oi′ : List ℕ} {ov′ : List Float} {u v m taken : ℕ} (g : Runs join is vs p js ws q n oi ov oi′ ov′ u v m taken) where
@@ -54,48 +48,38 @@ module _ {join : Cell → Cell → Cell} {is : List ℕ} {vs : List Float} {p : 
     pub runs-left : taken < k → (u < length is) × (v < length js)
     runs-left l = (omega (arith, g .left, h .left), omega (arith, g .right, h .right))
 
-    pub runs-steady : u + v < length is + length js → Steady is vs u js ws v m oi′ ov′
-    runs-steady l =
-        let w = g .here in
+    -- there is room for as many entries as turns
+    pub runs-steady : taken < room → u + v < length is + length js → Steady is vs u js ws v m oi′ ov′
+    runs-steady few l =
         record {
           standing = record {
-            even = w .even;
-            even′ = w .even′;
-            within = omega (arith, w .left);
-            within′ = omega (arith, w .right);
-            most = w .most;
-            most′ = w .most′;
+            even = h .even;
+            even′ = h .even′;
+            within = g .within;
+            within′ = g .within′;
+            most = h .most;
+            most′ = h .most′;
             more = l;
           };
-          room = omega (arith, w .few, w .room);
-          room′ = omega (arith, w .few, w .room′);
+          room = omega (arith, g .wrote, g .long, h .room);
+          room′ = omega (arith, g .wrote, g .long′, h .room′);
         }
 
     pub runs-more : {r : Step} {oi″ : List ℕ} {ov″ : List Float} → Stepped join is vs u js ws v m oi′ ov′ r oi″ ov″
         → Runs join is vs p js ws q n oi ov oi″ ov″ (r .p) (r .q) (r .n) (taken + 1)
     runs-more s =
-        let w = g .here in
-        let a = left-within s (omega (arith, w .left)) in
-        let b = right-within s (omega (arith, w .right)) in
-        let z = put-most (join (s .turn .x) (s .turn .y)) m in
+        let a = left-within s (g .within) in
+        let b = right-within s (g .within′) in
         record {
           chain = rw add-one (more (g .chain) s);
-          here = record {
-            even = w .even;
-            even′ = w .even′;
-            most = w .most;
-            most′ = w .most′;
-            left = omega (arith, a .0);
-            right = omega (arith, b .0);
-            few = omega (arith, w .few, s .put .count, z, passes s);
-            room = omega (arith, w .room, index-length s);
-            room′ = omega (arith, w .room′, value-length s);
-          };
           long = index-length s ∙ g .long;
           long′ = value-length s ∙ g .long′;
           passed = omega (arith, g .passed, passes s);
           left = omega (arith, g .left, a .1);
           right = omega (arith, g .right, b .1);
+          within = a .0;
+          within′ = b .0;
+          wrote = omega (arith, g .wrote, s .put .count, put-most (join (s .turn .x) (s .turn .y)) m);
         }
 
     pub ran : Ran join is vs p js ws q n oi ov (record { p = u; q = v; n = m; turns = taken }) oi′ ov′
@@ -104,8 +88,8 @@ module _ {join : Cell → Cell → Cell} {is : List ℕ} {vs : List Float} {p : 
           chain = g .chain;
           left = omega (arith, g .passed, g .right);
           right = omega (arith, g .passed, g .left);
-          within = omega (arith, g .here .left);
-          within′ = omega (arith, g .here .right);
+          within = g .within;
+          within′ = g .within′;
           passed = g .passed;
         }
 
@@ -118,10 +102,14 @@ chain-then s none = more none s
 chain-then s (more c t) = more (chain-then s c) t
 
 module _ {join : Cell → Cell → Cell} {is : List ℕ} {vs : List Float} {p : ℕ} {js : List ℕ} {ws : List Float} {q n : ℕ} {oi : List ℕ}
-    {ov : List Float} {k : ℕ} (h : Running k is vs p js ws q n oi ov) {s : Step} {oi′ : List ℕ} {ov′ : List Float}
-    (t : Stepped join is vs p js ws q n oi ov s oi′ ov′) where
-  pub running-then : {m : ℕ} → s .p + m ≤ length is → s .q + m ≤ length js → Running m is vs (s .p) js ws (s .q) (s .n) oi′ ov′
-  running-then l r =
+    {ov : List Float} {k : ℕ} (h : Running k (max (length is - p) (length js - q)) is vs p js ws q n oi ov) {s : Step} {oi′ : List ℕ}
+    {ov′ : List Float} (t : Stepped join is vs p js ws q n oi ov s oi′ ov′) where
+  -- the turn passed an entry of a side, which has room for as many as it had
+  pub running-then : {m : ℕ} → s .p + m ≤ length is → s .q + m ≤ length js → Running m m is vs (s .p) js ws (s .q) (s .n) oi′ ov′
+  running-then {m} l r =
+      let z = put-most (join (t .turn .x) (t .turn .y)) n in
+      let some = passes t in
+      let most : s .n + m ≤ n + max (length is - p) (length js - q) = omega (arith, t .put .count, z, some) in
       record {
         even = h .even;
         even′ = h .even′;
@@ -129,9 +117,8 @@ module _ {join : Cell → Cell → Cell} {is : List ℕ} {vs : List Float} {p : 
         most′ = h .most′;
         left = l;
         right = r;
-        few = omega (arith, h .few, t .put .count, put-most (join (t .turn .x) (t .turn .y)) n, passes t);
-        room = omega (arith, h .room, index-length t);
-        room′ = omega (arith, h .room′, value-length t);
+        room = omega (arith, most, h .room, index-length t);
+        room′ = omega (arith, most, h .room′, value-length t);
       }
 
   pub ran-then : {r : Block} {oi″ : List ℕ} {ov″ : List Float} → Ran join is vs (s .p) js ws (s .q) (s .n) oi′ ov′ r oi″ ov″

@@ -8,8 +8,8 @@ use Rattle.sparse.specs.declared.Cell.{Cell}
 use Rattle.steps.specs.Turns.{step, Chain}
 use Rattle.merge_runs.specs.declared.Block.{Block}
 
--- a walk has come to the entries p and q, and both sides have k left; it has written no more than it has passed, and has room for all
-pub record Running (k : ℕ) (is : List ℕ) (vs : List Float) (p : ℕ) (js : List ℕ) (ws : List Float) (q n : ℕ) (oi : List ℕ) (ov : List Float)
+-- a walk has come to the entries p and q, both sides have k left, and there is room for m entries from n on
+pub record Running (k m : ℕ) (is : List ℕ) (vs : List Float) (p : ℕ) (js : List ℕ) (ws : List Float) (q n : ℕ) (oi : List ℕ) (ov : List Float)
     : Type 0 where
   pub even : length is ≡ length vs
   pub even′ : length js ≡ length ws
@@ -17,9 +17,8 @@ pub record Running (k : ℕ) (is : List ℕ) (vs : List Float) (p : ℕ) (js : L
   pub most′ : length js ≤ 1048575
   pub left : p + k ≤ length is
   pub right : q + k ≤ length js
-  pub few : n ≤ p + q
-  pub room : length is + length js ≤ length oi
-  pub room′ : length is + length js ≤ length ov
+  pub room : n + m ≤ length oi
+  pub room′ : n + m ≤ length ov
 
 -- it took turns, none or more
 pub record Ran (join : Cell → Cell → Cell) (is : List ℕ) (vs : List Float) (p : ℕ) (js : List ℕ) (ws : List Float) (q n : ℕ) (oi : List ℕ)

@@ -3,7 +3,7 @@
 // above, not for users.
 
 use walks::Way;
-ghost use Prim.Native.Nat.{_+_, _≤_, _<_};
+ghost use Prim.Native.Nat.{_+_, _-_, _≤_, _<_, max};
 ghost use lib.ListN.{length};
 ghost use Rattle.steps.specs.Turns.{sumOf};
 ghost use Rattle.merge_runs.specs.Runs.{Running, Ran};
@@ -31,7 +31,7 @@ fn quick_run(
     ov: &mut [f32],
     n: usize,
 ) -> Block
-    requires { ⌜ Running k (now ia) (now va) p (now ib) (now vb) q n (now oi) (now ov) ⌝ }
+    requires { ⌜ Running k k (now ia) (now va) p (now ib) (now vb) q n (now oi) (now ov) ⌝ }
     ensures { λ r. ⌜ Ran (sumOf negate) (now (ia .entry)) (now (va .entry)) p (now (ib .entry)) (now (vb .entry)) q n (now (oi .entry)) (now (ov .entry)) r (now (oi .exit)) (now (ov .exit)) ⌝ }
 {
     let mut u = p;
@@ -76,7 +76,7 @@ fn met_run(
     ov: &mut [f32],
     n: usize,
 ) -> Block
-    requires { ⌜ Running k (now ia) (now va) p (now ib) (now vb) q n (now oi) (now ov) ⌝ }
+    requires { ⌜ Running k k (now ia) (now va) p (now ib) (now vb) q n (now oi) (now ov) ⌝ }
     ensures { λ r. ⌜ Ran (sumOf negate) (now (ia .entry)) (now (va .entry)) p (now (ib .entry)) (now (vb .entry)) q n (now (oi .entry)) (now (ov .entry)) r (now (oi .exit)) (now (ov .exit)) ⌝ }
 {
     let mut u = p;
@@ -112,7 +112,7 @@ fn plain_run(
     ov: &mut [f32],
     n: usize,
 ) -> Block
-    requires { ⌜ Running k (now ia) (now va) p (now ib) (now vb) q n (now oi) (now ov) ⌝ }
+    requires { ⌜ Running k k (now ia) (now va) p (now ib) (now vb) q n (now oi) (now ov) ⌝ }
     ensures { λ r. ⌜ Ran (sumOf negate) (now (ia .entry)) (now (va .entry)) p (now (ib .entry)) (now (vb .entry)) q n (now (oi .entry)) (now (ov .entry)) r (now (oi .exit)) (now (ov .exit)) ⌝ }
 {
     let mut u = p;
@@ -149,7 +149,7 @@ fn run(
     ov: &mut [f32],
     n: usize,
 ) -> Block
-    requires { ⌜ Running k (now ia) (now va) p (now ib) (now vb) q n (now oi) (now ov) ⌝ }
+    requires { ⌜ Running k k (now ia) (now va) p (now ib) (now vb) q n (now oi) (now ov) ⌝ }
     ensures { λ r. ⌜ Ran (sumOf negate) (now (ia .entry)) (now (va .entry)) p (now (ib .entry)) (now (vb .entry)) q n (now (oi .entry)) (now (ov .entry)) r (now (oi .exit)) (now (ov .exit)) ⌝ }
 {
     if let Way::Quick = way {
@@ -161,7 +161,7 @@ fn run(
     plain_run(negate, k, ia, va, p, ib, vb, q, oi, ov, n)
 }
 
-// A turn, and a run.
+// A turn, and a run: no more turns than the longer side has entries left.
 pub fn any_run(
     negate: bool,
     way: Way,
@@ -175,7 +175,7 @@ pub fn any_run(
     ov: &mut [f32],
     n: usize,
 ) -> Block
-    requires { ⌜ Running 1 (now ia) (now va) p (now ib) (now vb) q n (now oi) (now ov) ⌝ }
+    requires { ⌜ Running 1 (max (length (now ia) - p) (length (now ib) - q)) (now ia) (now va) p (now ib) (now vb) q n (now oi) (now ov) ⌝ }
     ensures { λ r. ⌜ Ran (sumOf negate) (now (ia .entry)) (now (va .entry)) p (now (ib .entry)) (now (vb .entry)) q n (now (oi .entry)) (now (ov .entry)) r (now (oi .exit)) (now (ov .exit)) ⌝ }
     ensures { λ r. ⌜ p + q < r .p + r .q ⌝ }
 {
@@ -203,7 +203,7 @@ pub fn finish(
     ov: &mut [f32],
     n: usize,
 ) -> Block
-    requires { ⌜ Running 0 (now ia) (now va) p (now ib) (now vb) q n (now oi) (now ov) ⌝ }
+    requires { ⌜ Running 0 (length (now ia) - p + (length (now ib) - q)) (now ia) (now va) p (now ib) (now vb) q n (now oi) (now ov) ⌝ }
     ensures { λ r. ⌜ Ran (sumOf negate) (now (ia .entry)) (now (va .entry)) p (now (ib .entry)) (now (vb .entry)) q n (now (oi .entry)) (now (ov .entry)) r (now (oi .exit)) (now (ov .exit)) ⌝ }
     ensures { λ r. ⌜ length (now (ia .entry)) + length (now (ib .entry)) ≤ r .p + r .q ⌝ }
 {

@@ -14,9 +14,9 @@ use Rattle.sparse.specs.declared.Cell.{Cell}
 use Rattle.sparse.specs.declared.Cell.the-variants.{Empty}
 use Rattle.walks.specs.Walk.{Turned, Put}
 use Rattle.walks.specs.declared.Turn.{Turn}
-use Rattle.walks.proofs.Stores.{put-most, Written, written-none, written-empty, written-lengths, written-more}
-use Rattle.walks.proofs.Walk.{Quiet, Going, passed, going-start, going-more, going-end, left-cell, right-cell, in-union, place-below}
-use Rattle.merges.specs.Algebra.{joined, joins, unionTurns}
+use Rattle.walks.proofs.Stores.{put-most, Written, written-none, written-empty, written-most, written-lengths, written-more}
+use Rattle.walks.proofs.Walk.{Walk, Quiet, Going, within-dims, going-start, going-more, going-end, left-cell, right-cell, in-union, place-below}
+use Rattle.merges.specs.Algebra.{joined, joins, unionTurns, roomFor}
 use Rattle.merges.specs.Loops.{Ready, Fills}
 use Rattle.merges.specs.declared.Op.{Op}
 use Rattle.merges.specs.declared.Op.the-variants.{Add, Sub, Mul}
@@ -91,16 +91,29 @@ module _ {op : Op} {before : ℕ} {a b : Vector} {oi : List ℕ} {ov : List Floa
   pub merging-end : size a + size b ≤ p + q → Made op before a b oi ov oi′ ov′ n turns (a .dims)
   merging-end h = going-end sa sb (m .going) made-quiet h
 
+  -- in the room of a sum there is place for what is written and for all that is left of either side
+  pub merging-fits : a .dims ≡ b .dims → let room = roomFor Add (a .dims) (size a) (size b) in
+      (n + size a ≤ room + p) × (n + size b ≤ room + q)
+  merging-fits same =
+      let w = m .going .walk in
+      let d = within-dims sa sb (m .going) refl same (written-most (m .going .holds .wrote)) in
+      (omega (arith, m .few, w .right .within, d .0), omega (arith, m .few, w .left .within, d .1))
+
 -- ---- from the first place on, to outputs of the room that add and sub ask for
-module _ {op : Op} {a b : Vector} {oi : List ℕ} {ov : List Float} (r : Ready a b (size a + size b) oi ov)
-    {oi′ : List ℕ} {ov′ : List Float} {p q n turns : ℕ} (m : Merging op 0 a b oi ov oi′ ov′ p q n turns) where
+module _ {op : Op} {a b : Vector} {oi : List ℕ} {ov : List Float} (r : Ready a b (roomFor Add (a .dims) (size a) (size b)) oi ov)
+    (same : a .dims ≡ b .dims) {oi′ : List ℕ} {ov′ : List Float} {p q n turns : ℕ} (m : Merging op 0 a b oi ov oi′ ov′ p q n turns) where
+  abbrev w : Walk a b p q (m .going .front)
+  w = m .going .walk
+
   pub lengths : (length oi′ ≡ length oi) × (length ov′ ≡ length ov)
   lengths =
-      let h = passed (m .going) in
-      written-lengths (m .going .holds .wrote) (omega (arith, m .few, r .room)) (omega (arith, m .few, r .room′))
+      let f = merging-fits (r .left) (r .right) m same .0 in
+      written-lengths (m .going .holds .wrote) (omega (arith, f, w .left .within, r .room)) (omega (arith, f, w .left .within, r .room′))
 
   pub fits : p + q < size a + size b → (n < length oi) × (n < length ov)
-  fits h = (omega (arith, m .few, r .room), omega (arith, m .few, r .room′))
+  fits h =
+      let f = merging-fits (r .left) (r .right) m same in
+      (omega (arith, f .0, f .1, r .room), omega (arith, f .0, f .1, r .room′))
 
   pub merging-fills : size a + size b ≤ p + q → Fills (joins op a b) (unionTurns a b) oi ov (record { len = n; turns = turns }) oi′ ov′
   merging-fills h = let d = merging-end (r .left) (r .right) m h in made-merged op a b (a .dims) (d .wrote) (omega (arith, d .turned))

@@ -39,8 +39,9 @@ turnsOf Add = unionTurns
 turnsOf Sub = unionTurns
 turnsOf Mul = commonTurns
 
--- "Room: len a + len b in each output list."; for mul "the smaller length."
-abbrev pub roomFor : Op → ℕ → ℕ → ℕ
-roomFor Add m n = m + n
-roomFor Sub m n = m + n
-roomFor Mul m n = min m n
+-- The room of vectors of d dims that have m and n entries. "The room for add and sub becomes the smaller of len a + len b and dims"
+-- (request #104); for mul it is "the smaller length."
+abbrev pub roomFor : Op → ℕ → ℕ → ℕ → ℕ
+roomFor Add d m n = min (m + n) d
+roomFor Sub d m n = min (m + n) d
+roomFor Mul d m n = min m n

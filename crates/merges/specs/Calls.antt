@@ -18,4 +18,4 @@ Merges due v turns = WritesPair mergedSays (v .dims ∷ size v ∷ turns ∷ [])
 -- what two vectors give is written
 abbrev pub Joins : Op → Vector → Vector → List ℕ → List Float → Merged → List ℕ → List Float → Type 0
 Joins op a b oi ov =
-    Merges (next (pairOf a b) (roomOf (roomFor op (size a) (size b)) (length oi) (length ov))) (joins op a b) (turnsOf op a b) oi ov
+    Merges (next (pairOf a b) (roomOf (roomFor op (a .dims) (size a) (size b)) (length oi) (length ov))) (joins op a b) (turnsOf op a b) oi ov

@@ -39,7 +39,7 @@ fn merge(
     oi: &mut [u32],
     ov: &mut [f32],
 ) -> Both
-    requires { ⌜ Ready (vector dims (now ia) (now va)) (vector dims (now ib) (now vb)) (length (now ia) + length (now ib)) (now oi) (now ov) ⌝ }
+    requires { ⌜ Ready (vector dims (now ia) (now va)) (vector dims (now ib) (now vb)) (min (length (now ia) + length (now ib)) dims) (now oi) (now ov) ⌝ }
     ensures { λ r. ⌜ Fills (joins (opOf negate) (vector dims (now (ia .entry)) (now (va .entry))) (vector dims (now (ib .entry)) (now (vb .entry)))) (unionTurns (vector dims (now (ia .entry)) (now (va .entry))) (vector dims (now (ib .entry)) (now (vb .entry)))) (now (oi .entry)) (now (ov .entry)) r (now (oi .exit)) (now (ov .exit)) ⌝ }
 {
     let mut p: usize = 0;
@@ -189,7 +189,7 @@ fn write(
     oi: &mut [u32],
     ov: &mut [f32],
 ) -> Both
-    requires { ⌜ Ready (vector dims (now ia) (now va)) (vector dims (now ib) (now vb)) (roomFor op (length (now ia)) (length (now ib))) (now oi) (now ov) ⌝ }
+    requires { ⌜ Ready (vector dims (now ia) (now va)) (vector dims (now ib) (now vb)) (roomFor op dims (length (now ia)) (length (now ib))) (now oi) (now ov) ⌝ }
     ensures { λ r. ⌜ Fills (joins op (vector dims (now (ia .entry)) (now (va .entry))) (vector dims (now (ib .entry)) (now (vb .entry)))) (turnsOf op (vector dims (now (ia .entry)) (now (va .entry))) (vector dims (now (ib .entry)) (now (vb .entry)))) (now (oi .entry)) (now (ov .entry)) r (now (oi .exit)) (now (ov .exit)) ⌝ }
 {
     match op {
@@ -199,14 +199,15 @@ fn write(
     }
 }
 
-// The room that an answer needs, for two vectors of `a` and `b` entries.
-fn room_for(op: Op, a: usize, b: usize) -> usize
+// The room that an answer needs, for two vectors of `dims` dims that have `a` and `b` entries. A sum has no more entries
+// than both, and no more than there are places.
+fn room_for(op: Op, dims: u32, a: usize, b: usize) -> usize
     requires { ⌜ a + b ≤ 2097150 ⌝ }
-    ensures { λ r. ⌜ r ≡ roomFor op a b ⌝ }
+    ensures { λ r. ⌜ r ≡ roomFor op dims a b ⌝ }
 {
     match op {
-        Op::Add => a + b,
-        Op::Sub => a + b,
+        Op::Add => walks::smaller(a + b, dims as usize),
+        Op::Sub => walks::smaller(a + b, dims as usize),
         Op::Mul => walks::smaller(a, b),
     }
 }
@@ -229,7 +230,7 @@ pub fn join(
     if let Checked::Refused(number, place) = sparse::check_pair(dims_a, ia, va, dims_b, ib, vb) {
         return Merged::Refused(number, place);
     }
-    let room = room_for(op, ia.len(), ib.len());
+    let room = room_for(op, dims_a, ia.len(), ib.len());
     if oi.len() < room {
         return Merged::Refused(refusal::ROOM, room);
     }

@@ -43,10 +43,10 @@ leaves-all new old none many = ap (λ (c : Checked). leaves c new old) none ∙ 
 
 -- ---- the room is enough
 
-room-most : (op : Op) (m n : ℕ) → m ≤ 128 → n ≤ 128 → roomFor op m n ≤ 256
-room-most Add m n h l = omega arith
-room-most Sub m n h l = omega arith
-room-most Mul m n h l = omega arith
+room-most : (op : Op) (d m n : ℕ) → m ≤ 128 → n ≤ 128 → roomFor op d m n ≤ 256
+room-most Add d m n h l = omega arith
+room-most Sub d m n h l = omega arith
+room-most Mul d m n h l = omega arith
 
 next-none : (c : Checked) → next c Valid ≡ c
 next-none Valid = refl
@@ -74,11 +74,11 @@ module _ (op : Op) (a b : Operand) (short : length (a .indexes) ≤ 128) (short�
   v = given op a b
 
   -- the tests of the vectors decide
-  roomy : next (pairOf (valued a) (valued b)) (roomOf (roomFor op (length (a .indexes)) (length (b .indexes))) (length oi) (length ov))
+  roomy : next (pairOf (valued a) (valued b)) (roomOf (roomFor op (a .dims) (length (a .indexes)) (length (b .indexes))) (length oi) (length ov))
       ≡ pairOf (valued a) (valued b)
   roomy =
-      let n = roomFor op (length (a .indexes)) (length (b .indexes)) in
-      let most = room-most op (length (a .indexes)) (length (b .indexes)) short short′ in
+      let n = roomFor op (a .dims) (length (a .indexes)) (length (b .indexes)) in
+      let most = room-most op (a .dims) (length (a .indexes)) (length (b .indexes)) short short′ in
       ap (next (pairOf (valued a) (valued b))) (room-enough n (length oi) (length ov) (omega (arith, most, room)) (omega (arith, most, room′)))
       ∙ next-none (pairOf (valued a) (valued b))
 

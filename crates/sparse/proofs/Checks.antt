@@ -17,8 +17,9 @@ use Rattle.refusal.proofs.Chains.{next-valid, refuse-valid, differ-valid}
 use Rattle.refusal.proofs.Dims.{in-range, range-in}
 use Rattle.sparse.specs.Vectors.{Vector, vector, size}
 use Rattle.sparse.specs.Calls.{badDims, falls, tooHigh, zeroAt, checkedOf, eachOf, pairOf}
-use Rattle.sparse.specs.Sound.{Rising, Sound}
+use Rattle.sparse.specs.Sound.{Rising, Split, Sound}
 use Rattle.sparse.proofs.Falls.{rises, falls-at, first-rises}
+use Rattle.sparse.proofs.Look.{split-start}
 
 -- an index that is too high is there
 pub high-some : (d : ℕ) (is : List ℕ) → tooHigh d is ≡ true → 1 ≤ length is
@@ -137,18 +138,26 @@ valid v s =
       any-none (zeroAt (v .values)) (length (v .values)) (λ j l. s .nonzero j (omega (arith, s .even))),
     )
 
--- indexes that rise are at least their places
-index-least : (is : List ℕ) → Rising is → (j : ℕ) → j < length is → j ≤ getD is j 0
-index-least is up zero h = zero-le
-index-least is up (suc j) h = omega (arith, index-least is up j (omega arith), up j (suc j) (omega arith) h)
+-- ---- how many entries there are
 
--- no more entries than places
-pub size-most : {v : Vector} → Sound v → size v ≤ v .dims
-size-most {v} s =
+-- indexes rise, so that the i-th entry after one whose place is not below k is not below k + i
+index-least : {v : Vector} → Sound v → {p k : ℕ} → Split (v .indexes) p k → (i : ℕ) → p + i < size v → k + i ≤ getD (v .indexes) (p + i) 0
+index-least s {p} cut zero h = let e : p + 0 ≡ p = omega arith in rw e (omega (arith, cut .high p (omega arith) (omega arith)))
+index-least s {p} cut (suc i) h = omega (arith, index-least s cut i (omega arith), s .rising (p + i) (p + suc i) (omega arith) h)
+
+-- from a place on there are no more entries than places
+pub left-most : {v : Vector} → Sound v → {p k : ℕ} → Split (v .indexes) p k → k ≤ v .dims → k + size v ≤ v .dims + p
+left-most {v} s {p} cut le =
     ⊎-elim
-    (λ h. omega arith)
-    (λ h. omega (arith, index-least (v .indexes) (s .rising) (size v - 1) (omega arith), s .below (size v - 1) (omega arith)))
-    (le-or-lt (size v) 0)
+    (λ h. omega (arith, cut .within))
+    (λ h.
+    let e : p + (size v - 1 - p) ≡ size v - 1 = omega arith in
+    let last = index-least s cut (size v - 1 - p) (omega arith) in
+    omega (arith, rw e at last, s .below (size v - 1) (omega arith)))
+    (le-or-lt (size v) p)
+
+pub size-most : {v : Vector} → Sound v → size v ≤ v .dims
+size-most {v} s = omega (arith, left-most s (split-start (v .indexes)) zero-le)
 
 -- ---- two vectors
 

@@ -10,7 +10,7 @@ use lib.Ieee.{Float}
 use Rattle.sparse.specs.Cells.{indexOf, valueOf, indexesBelow, valuesBelow}
 use Rattle.sparse.specs.declared.Cell.{Cell}
 use Rattle.sparse.specs.declared.Cell.the-variants.{Empty, Full}
-use Rattle.sparse.proofs.Entries.{indexes-empty, values-empty, as-many}
+use Rattle.sparse.proofs.Entries.{indexes-empty, values-empty, entries-most, as-many}
 use Rattle.walks.specs.Walk.{putIndex, putValue, putCount, Put}
 
 -- a store at the end of what was stored
@@ -52,6 +52,10 @@ module _ {f : ℕ → Cell} {oi : List ℕ} {ov : List Float} {oi′ : List ℕ}
   written-empty e =
       let i = indexes-empty f k e in
       record { count = rw i (w .count); indexes = rw i (w .indexes); values = rw (values-empty f k e) (w .values) }
+
+  -- no more entries are written than places are passed
+  pub written-most : n ≤ k
+  written-most = omega (arith, w .count, entries-most f k)
 
   -- the stores leave the lengths
   pub written-lengths : n ≤ length oi → n ≤ length ov → (length oi′ ≡ length oi) × (length ov′ ≡ length ov)

@@ -13,7 +13,7 @@ use Rattle.sparse.specs.Vectors.{Vector, size, at, inUnion}
 use Rattle.sparse.specs.Sound.{Split, Sound}
 use Rattle.sparse.specs.declared.Cell.{Cell}
 use Rattle.sparse.specs.declared.Cell.the-variants.{Empty}
-use Rattle.sparse.proofs.Checks.{size-most}
+use Rattle.sparse.proofs.Checks.{left-most, size-most}
 use Rattle.sparse.proofs.Look.{look-end, look-gap, look-met, split-start, split-on, split-met}
 use Rattle.walks.specs.Walk.{Taken, Standing, Turned}
 use Rattle.walks.specs.declared.Turn.{Turn}
@@ -104,6 +104,14 @@ module _ {a b : Vector} (sa : Sound a) (sb : Sound b) {limit : ℕ} {P : ℕ →
     most′ = omega (arith, size-most sb, sb .high);
     more = h;
   }
+
+  -- What takes no more room than places were passed fits into the dims with all that is left of either side: places rise, and are below
+  -- the dims.
+  pub within-dims : limit ≡ a .dims → a .dims ≡ b .dims → {n : ℕ} → n ≤ g .front → (n + size a ≤ a .dims + p) × (n + size b ≤ a .dims + q)
+  within-dims all same h =
+      let in-a : g .front ≤ a .dims = omega (arith, all, g .inside) in
+      let in-b : g .front ≤ b .dims = omega (arith, all, same, g .inside) in
+      (omega (arith, left-most sa (g .walk .left) in-a), omega (arith, same, left-most sb (g .walk .right) in-b))
 
   module _ {t : Turn} (u : Turned (a .indexes) (a .values) p (b .indexes) (b .values) q t) where
     -- one of the two has an entry at the place of the turn

@@ -28,8 +28,8 @@ run-requires c κs =
     let s = t .met-step .ensures in
     let a = left-within s (omega (arith, r .left)) .0 in
     let b = right-within s (omega (arith, r .right)) .0 in
-    let k = c .before .before .run-length .ensures in
-    running-then r s (omega (arith, a, k .0)) (omega (arith, b, k .1))
+    let k = c .before .before .run-length in
+    running-then r s {m = k .result} (omega (arith, a, k .ensures .0)) (omega (arith, b, k .ensures .1))
 
 add-t19 : tie.Need-add-t19
 add-t19 c =

@@ -22,19 +22,24 @@ loop-holds : tie.Need-loop-holds Inv-loop μ-loop
 loop-holds c = runs-start (c .before .before .before .before .before .before .pre)
 
 add-loop : tie.Need-add-loop Inv-loop μ-loop
-add-loop c = let w = c .loop .inv .here in omega (arith, w .left, w .right, w .most, w .most′)
+add-loop c = let g = c .loop .inv in let r = start c .pre in omega (arith, g .within, g .within′, r .most, r .most′)
 
 add-loop-2 : tie.Need-add-loop-2 Inv-loop μ-loop
-add-loop-2 c = let w = c .loop .inv .here in omega (arith, w .most, w .most′)
+add-loop-2 c = let r = start c .pre in omega (arith, r .most, r .most′)
 
 plain-step-requires : tie.Need-plain-step-requires Inv-loop μ-loop
-plain-step-requires c κs = let l = c .before .before .before in runs-steady (start l .pre) (l .loop .inv) (omega arith)
+plain-step-requires c κs =
+    let l = c .before .before .before in
+    let r = start l .pre in
+    let g = l .loop .inv in
+    runs-steady r g (omega (arith, g .passed, r .left, r .right)) (omega arith)
 
 add-taken : tie.Need-add-taken Inv-loop μ-loop
 add-taken c =
     let l = c .before .before .before .before .before .before .before .before in
-    let w = l .loop .inv .here in
-    omega (arith, l .loop .inv .passed, w .left, w .right, w .most, w .most′)
+    let g = l .loop .inv in
+    let r = start l .pre in
+    omega (arith, g .passed, g .within, g .within′, r .most, r .most′)
 
 loop-less : tie.Need-loop-less Inv-loop μ-loop
 loop-less c = omega (arith, passes (c .before .before .before .before .plain-step .ensures))

@@ -23,7 +23,7 @@ met-step-requires c κs =
     let l = c .before .before .before in
     let r = start l .pre in
     let g = runs-left r (l .loop .inv) (omega arith) in
-    (runs-steady r (l .loop .inv) (omega (arith, g .0, g .1)), g)
+    (runs-steady r (l .loop .inv) (omega arith) (omega (arith, g .0, g .1)), g)
 
 add-taken : tie.Need-add-taken Inv-loop μ-loop
 add-taken c = let r = start (c .before .before .before .before .before .before .before .before) .pre in omega (arith, r .left, r .most)

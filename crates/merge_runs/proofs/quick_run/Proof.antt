@@ -59,7 +59,7 @@ store-step-requires c κs =
     let l = i .before .before .before .before .before in
     let r = start l .pre in
     let g = runs-left r (l .loop .inv) (omega arith) in (
-      runs-steady r (l .loop .inv) (omega (arith, g .0, g .1)),
+      runs-steady r (l .loop .inv) (omega arith) (omega (arith, g .0, g .1)),
       record { left = g .0; right = g .1; some = λ e. rw (← i .before .met .ensures) (i .if1 .left) },
     )
 

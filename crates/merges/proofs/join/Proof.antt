@@ -36,7 +36,7 @@ roomed : (c : tie.After-enum-told) (room : Checked) → next (pairOf (left c) (r
 roomed c room = ap (λ (x : Checked). next x room) (passed c)
 
 abbrev needed : tie.After-enum-told → ℕ
-needed c = roomFor (start c .args .op) (size (left c)) (size (right c))
+needed c = roomFor (start c .args .op) (left c .dims) (size (left c)) (size (right c))
 
 check-pair-requires : tie.Need-check-pair-requires
 check-pair-requires c κs = search needs

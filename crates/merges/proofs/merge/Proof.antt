@@ -2,14 +2,15 @@
 -- them than entries are passed. The measure is the number of entries left in both. Assumes nothing.
 use Prim.Native.Nat.{_+_, _-_}
 use native.Mathlib.Omega.{arith}
+use mathlib.Core.Logic.{inl, inr, ⊎-elim}
 use mathlib.Core.Path.{refl}
 use lib.ListN.{length}
-use borrow.Author.Tests.{ltb-true}
+use borrow.Author.Tests.{ltb-true, ltb-false}
 use Rattle.sparse.specs.Vectors.{vector}
 use Rattle.sparse.proofs.Checks.{size-most, sizes-most}
 use Rattle.merges.specs.Loops.{opOf}
 use Rattle.merges.proofs.Made.{Merging, merging-start, lengths, merging-fills}
-use Rattle.merges.proofs.Turning.{merging-running, merging-chain}
+use Rattle.merges.proofs.Turning.{running-on, running-out, merging-chain}
 use Rattle.merges.proofs.merge.Statement.{statement}
 use Rattle.merges.proofs.merge.Tie as tie
 
@@ -37,8 +38,8 @@ any-run-requires : tie.Need-any-run-requires Inv-loop μ-loop
 any-run-requires c κs =
     let l = c .before .before .before .before in
     let t = start l in
-    merging-running (t .args .negate) (t .pre) refl (l .loop .inv) (omega arith)
-    (omega (arith, ltb-true (l .loop .q) (length (t .args .ib .now)) (c .before .before .if1 .taken)))
+    running-on (t .args .negate) (t .pre) refl (l .loop .inv) (omega arith)
+    (ltb-true (l .loop .q) (length (t .args .ib .now)) (c .before .before .if1 .taken))
 
 sub-way-on : tie.Need-sub-way-on Inv-loop μ-loop
 sub-way-on c = c .before .before .before .before .before .any-run .ensures .0 .left
@@ -73,8 +74,11 @@ finish-requires : tie.Need-finish-requires Inv-loop μ-loop
 finish-requires c κs =
     let l = c .before .before .before in
     let t = start l in
-    let w = l .loop .inv .going .walk in
-    merging-running (t .args .negate) (t .pre) refl (l .loop .inv) (omega (arith, w .left .within)) (omega (arith, w .right .within))
+    running-out (t .args .negate) (t .pre) refl (l .loop .inv)
+    (⊎-elim
+    (λ e. inr (ltb-false (l .loop .q) (length (t .args .ib .now)) (e .1 .left)))
+    (λ e. inl (omega (arith, e .left)))
+    (c .before .before .loop-test .came))
 
 add-t29 : tie.Need-add-t29 Inv-loop μ-loop
 add-t29 c =
@@ -86,17 +90,17 @@ add-t29 c =
 same-length : tie.Need-same-length Inv-loop μ-loop
 same-length c =
     let l = ended c in
-    lengths (start l .pre) (merging-chain (start l .args .negate) (start l .pre) refl (l .loop .inv) (c .before .before .before .before .before .finish .ensures .0 .chain)) .0
+    lengths (start l .pre) refl (merging-chain (start l .args .negate) (start l .pre) refl (l .loop .inv) (c .before .before .before .before .before .finish .ensures .0 .chain)) .0
 
 same-length-2 : tie.Need-same-length-2 Inv-loop μ-loop
 same-length-2 c =
     let l = ended c in
-    lengths (start l .pre) (merging-chain (start l .args .negate) (start l .pre) refl (l .loop .inv) (c .before .before .before .before .before .finish .ensures .0 .chain)) .1
+    lengths (start l .pre) refl (merging-chain (start l .args .negate) (start l .pre) refl (l .loop .inv) (c .before .before .before .before .before .finish .ensures .0 .chain)) .1
 
 returns : tie.Need-returns Inv-loop μ-loop
 returns c =
     let l = ended c in
-    merging-fills (start l .pre)
+    merging-fills (start l .pre) refl
     (merging-chain (start l .args .negate) (start l .pre) refl (l .loop .inv) (c .before .before .before .before .before .finish .ensures .0 .chain))
     (c .before .before .before .before .before .finish .ensures .1)
 

@@ -16,7 +16,7 @@ start c = c .before .before .before .before .before .before
 
 -- the room is that of the operation that is met
 met : {a b : Vector} {oi : List ℕ} {ov : List Float} {op op′ : Op} → op ≡ op′
-    → Ready a b (roomFor op (size a) (size b)) oi ov → Ready a b (roomFor op′ (size a) (size b)) oi ov
+    → Ready a b (roomFor op (a .dims) (size a) (size b)) oi ov → Ready a b (roomFor op′ (a .dims) (size a) (size b)) oi ov
 met e r = rw e at r
 
 enum-told : tie.Need-enum-told
