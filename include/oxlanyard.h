@@ -155,7 +155,7 @@ uint32_t oxl_svect_three_sums(uint32_t dims_a, const uint32_t *ia, size_t ia_len
 
 /*
  * Writes a plus b, without zeros. *dims, *len: its dims and entries; *turns: the distinct indexes of both.
- * Refuses: left, right, DIFFER, ROOM [the entries of both together].
+ * Refuses: left, right, DIFFER, ROOM [the entries of both together, or the dims if these are fewer].
  */
 uint32_t oxl_svect_operator_add(uint32_t dims_a, const uint32_t *ia, size_t ia_len, const float *va, size_t va_len,
                                 uint32_t dims_b, const uint32_t *ib, size_t ib_len, const float *vb, size_t vb_len,

@@ -78,6 +78,25 @@ static void sparse_merges(void)
     sparse_merge(oxl_svect_operator_mul, 2, 1, times_at, times_is, 2);
 }
 
+/* A sum of vectors that have more entries than dims needs as much room as dims, and no more. */
+static void sparse_room(void)
+{
+    const uint32_t at[3] = {0, 1, 2};
+    const float is[3] = {1.0f, 2.0f, 4.0f};
+    uint32_t oi[4] = {E32, E32, E32, E32}, dims = E32;
+    float ov[4] = {OLD, OLD, OLD, OLD};
+    size_t len = E32, turns = E32, place = E32;
+#define FULL 3, at, 3, is, 3
+#define ONE 3, at, 1, is, 1
+    EXPECT(oxl_svect_operator_add(FULL, FULL, oi, 2, ov, 4, &dims, &len, &turns, &place) == OXL_ROOM && place == 3);
+    EXPECT(oxl_svect_operator_sub(FULL, ONE, oi, 4, ov, 2, &dims, &len, &turns, &place) == OXL_ROOM && place == 3);
+    EXPECT(dims == 0 && len == 0 && turns == 0 && oi[0] == E32 && ov[0] == OLD);
+    EXPECT(oxl_svect_operator_add(FULL, FULL, oi, 3, ov, 3, &dims, &len, &turns, &place) == OXL_DONE && place == 0);
+    EXPECT(dims == 3 && len == 3 && turns == 3 && oi[2] == 2 && ov[2] == 8.0f && oi[3] == E32 && ov[3] == OLD);
+    EXPECT(oxl_svect_operator_sub(FULL, ONE, oi, 3, ov, 4, &dims, &len, &turns, &place) == OXL_DONE && place == 0);
+    EXPECT(dims == 3 && len == 2 && turns == 3 && oi[0] == 1 && ov[1] == 4.0f && oi[2] == 2 && ov[2] == 8.0f);
+}
+
 /* P6, P7, P10, and a NaN. */
 static void sparse_slices_and_order(void)
 {
@@ -108,5 +127,6 @@ void sparse(void)
     sparse_checked();
     sparse_sums();
     sparse_merges();
+    sparse_room();
     sparse_slices_and_order();
 }

@@ -42,14 +42,17 @@ fn both<'a, T>(pairs: &'a [Pair], of: fn(&'a Sparse) -> T) -> Vec<(T, T)> {
 
 /// The three ways of a call that makes a vector: ours to lent lists, ours with lists of its own, and the Rust's.
 pub struct Merge<'a> {
+    /// The room that a pair asks for.
+    pub room: fn(&Pair) -> usize,
     pub lent: for<'o> fn(Ours<'a>, Ours<'a>, &'o mut [u32], &'o mut [f32]) -> Ours<'o>,
     pub owned: fn(Ours<'a>, Ours<'a>) -> oxlanyard::SVectOwned,
     pub rust: fn(Rust<'a>, Rust<'a>) -> SVectOwned<f32>,
 }
 
 macro_rules! merge {
-    ($lent:ident, $owned:ident) => {
+    ($room:ident, $lent:ident, $owned:ident) => {
         Merge {
+            room: $room,
             lent: |a, b, i, v| a.$lent(b, i, v).expect("valid vectors").vector,
             owned: |a, b| a.$owned(b).expect("valid vectors"),
             rust: |a, b| a.$owned(b),
@@ -57,20 +60,28 @@ macro_rules! merge {
     };
 }
 
+fn of_both(pair: &Pair) -> usize {
+    (pair.a.indexes.len() + pair.b.indexes.len()).min(DIMS as usize)
+}
+
+fn of_the_shorter(pair: &Pair) -> usize {
+    pair.a.indexes.len().min(pair.b.indexes.len())
+}
+
 pub fn add<'a>() -> Merge<'a> {
-    merge!(operator_add_into, operator_add)
+    merge!(of_both, operator_add_into, operator_add)
 }
 
 fn sub<'a>() -> Merge<'a> {
-    merge!(operator_sub_into, operator_sub)
+    merge!(of_both, operator_sub_into, operator_sub)
 }
 
 fn mul<'a>() -> Merge<'a> {
-    merge!(operator_mul_into, operator_mul)
+    merge!(of_the_shorter, operator_mul_into, operator_mul)
 }
 
 pub fn merged<'a>(pairs: &'a [Pair], merge: Merge<'a>) -> Vec<Side<'a>> {
-    let room = 2 * pairs[0].a.indexes.len();
+    let room = pairs.iter().map(merge.room).max().unwrap_or(0);
     let (mut indexes, mut values) = (vec![0; room], vec![0.0; room]);
     for pair in pairs {
         let its = (merge.rust)(rust(&pair.a), rust(&pair.b));

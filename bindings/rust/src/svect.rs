@@ -165,19 +165,25 @@ impl<'a> SVectBorrowed<'a> {
     /// The sum. Entries that cancel are left out. Refuses with DIFFER.
     #[inline]
     pub fn operator_add(self, rhs: Self) -> Result<SVectOwned, Refusal> {
-        self.owned(Operation::Add, rhs, self.indexes.len() + rhs.indexes.len())
+        self.owned(Operation::Add, rhs, self.room(rhs))
     }
 
     /// The left side less the right. Entries that cancel are left out. Refuses with DIFFER.
     #[inline]
     pub fn operator_sub(self, rhs: Self) -> Result<SVectOwned, Refusal> {
-        self.owned(Operation::Sub, rhs, self.indexes.len() + rhs.indexes.len())
+        self.owned(Operation::Sub, rhs, self.room(rhs))
     }
 
     /// The products at common indexes. Those that are zero are left out. Refuses with DIFFER.
     #[inline]
     pub fn operator_mul(self, rhs: Self) -> Result<SVectOwned, Refusal> {
         self.owned(Operation::Mul, rhs, self.indexes.len().min(rhs.indexes.len()))
+    }
+
+    /// What add and sub ask for: a place for each entry of both sides, or for each of the dims if these are fewer.
+    #[inline]
+    fn room(self, rhs: Self) -> usize {
+        (self.indexes.len() + rhs.indexes.len()).min(self.dims as usize)
     }
 
     #[inline]
@@ -189,7 +195,7 @@ impl<'a> SVectBorrowed<'a> {
     }
 
     /// As [`operator_add`](Self::operator_add), to the front of the lists. Refuses with DIFFER, ROOM (the entries of
-    /// both sides together).
+    /// both sides together, or the dims if these are fewer).
     ///
     /// ```
     /// # use oxlanyard::SVectBorrowed;
@@ -199,6 +205,10 @@ impl<'a> SVectBorrowed<'a> {
     /// let sum = a.operator_add_into(b, &mut indexes, &mut values)?;
     /// assert_eq!((sum.vector.indexes(), sum.turns), (&[1, 6][..], 3));
     /// assert_eq!(indexes, [1, 6, 9, 9, 9]);
+    ///
+    /// let full = SVectBorrowed::new_checked(2, &[0, 1], &[1.0, 3.0])?;
+    /// let (mut indexes, mut values) = ([9; 2], [9.0; 2]);
+    /// assert_eq!(full.operator_add_into(full, &mut indexes, &mut values)?.vector.values(), &[2.0, 6.0]);
     /// # Ok::<(), oxlanyard::Refusal>(())
     /// ```
     #[inline]
@@ -212,7 +222,7 @@ impl<'a> SVectBorrowed<'a> {
     }
 
     /// As [`operator_sub`](Self::operator_sub), to the front of the lists. Refuses with DIFFER, ROOM (the entries of
-    /// both sides together).
+    /// both sides together, or the dims if these are fewer).
     #[inline]
     pub fn operator_sub_into<'o>(
         self,

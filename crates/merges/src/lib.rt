@@ -205,9 +205,10 @@ fn room_for(op: Op, dims: u32, a: usize, b: usize) -> usize
     requires { ⌜ a + b ≤ 2097150 ⌝ }
     ensures { λ r. ⌜ r ≡ roomFor op dims a b ⌝ }
 {
+    let both = a + b;
     match op {
-        Op::Add => walks::smaller(a + b, dims as usize),
-        Op::Sub => walks::smaller(a + b, dims as usize),
+        Op::Add => walks::smaller(both, dims as usize),
+        Op::Sub => walks::smaller(both, dims as usize),
         Op::Mul => walks::smaller(a, b),
     }
 }

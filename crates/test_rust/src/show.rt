@@ -25,7 +25,7 @@ pub fn sparse(r: Written, indexes: &[u32], values: &[f32]) {
 }
 
 // The same of two vectors put together.
-pub fn merged(r: Merged, indexes: &[u32], values: &[f32]) {
+pub fn merged(r: Merged, indexes: &[u32; 512], values: &[f32; 512]) {
     match r {
         Merged::Done(dims, n, turns) => sparse(Written::Done(dims, n), indexes, values),
         Merged::Refused(n, p) => shown::bare::refused(n, p),

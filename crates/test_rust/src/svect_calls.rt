@@ -7,7 +7,25 @@ use crate::show;
 use cases::Shape;
 use cases::bounds;
 use cases::bounds::Ends;
+ghost use Prim.Native.Nat.{_≤_};
 ghost use Rattle.cases.specs.Room.{Inside, Within};
+
+// The room that add and sub ask for, of a written vector's 512 places: so much is lent to them, and no more.
+fn room(dims: u32, a: usize, b: usize) -> usize
+    ensures { λ r. ⌜ r ≤ 512 ⌝ }
+{
+    if 256 < a {
+        return 512;
+    }
+    if 256 < b {
+        return 512;
+    }
+    let places = dims as usize;
+    if a + b <= places {
+        return a + b;
+    }
+    places
+}
 
 // Runs a call that writes a vector. Answers whether there is one of this name.
 fn write(
@@ -22,15 +40,34 @@ fn write(
 ) -> bool {
     let from = ends.from;
     let to = ends.to;
+    let n = room(dims_a, ia.len(), ib.len());
     let mut oi = [0u32; 512];
     let mut ov = [0.0f32; 512];
     match call {
         Call::Add => {
-            let r = svect::operator_add(dims_a, ia, va, dims_b, ib, vb, &mut oi, &mut ov);
+            let r = svect::operator_add(
+                dims_a,
+                ia,
+                va,
+                dims_b,
+                ib,
+                vb,
+                &mut oi[0..n],
+                &mut ov[0..n],
+            );
             show::merged(r, &oi, &ov);
         }
         Call::Sub => {
-            let r = svect::operator_sub(dims_a, ia, va, dims_b, ib, vb, &mut oi, &mut ov);
+            let r = svect::operator_sub(
+                dims_a,
+                ia,
+                va,
+                dims_b,
+                ib,
+                vb,
+                &mut oi[0..n],
+                &mut ov[0..n],
+            );
             show::merged(r, &oi, &ov);
         }
         Call::Mul => {

@@ -9,7 +9,7 @@ use refusal::Bound;
 ghost use Rattle.cases.specs.Room.{Inside};
 
 // How long a lent list is at most.
-const ROOM: usize = 16;
+const ROOM: usize = 48;
 
 // The calls that write to lent lists. Answers whether the letter is one of theirs.
 fn write(
@@ -56,8 +56,8 @@ fn lend(
     }
     let from = rest.from;
     let to = rest.to;
-    let mut oi = [cases::DOT_INDEX; 16];
-    let mut ov = [cases::DOT_VALUE; 16];
+    let mut oi = [cases::DOT_INDEX; 48];
+    let mut ov = [cases::DOT_VALUE; 48];
     if !write(
         call,
         dims_a,
@@ -136,12 +136,12 @@ fn entries(
 // Reads what follows a label, and runs the call on it. Answers whether it is a case.
 fn case(s: &[u8], bar: usize, call: u8) -> bool {
     let dims_a = cases::dims(s, bar);
-    let mut ia = [0u32; 16];
-    let mut va = [0.0f32; 16];
+    let mut ia = [0u32; 48];
+    let mut va = [0.0f32; 48];
     let a = cases::vector(s, bar, dims_a, &mut ia, &mut va);
     let dims_b = cases::dims(s, a.at);
-    let mut ib = [0u32; 16];
-    let mut vb = [0.0f32; 16];
+    let mut ib = [0u32; 48];
+    let mut vb = [0.0f32; 48];
     let b = cases::vector(s, a.at, dims_b, &mut ib, &mut vb);
     let rest = read::rest(s, b.at);
     if rest.at != s.len() {

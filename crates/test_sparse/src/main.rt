@@ -5,7 +5,7 @@
 //
 // It has the call and a label; one vector or two, each its dims and then its entries, as `cases` reads them;
 // for a slice its two bounds; and the lengths of the two lent lists. `=4` is Included 4, `!4` is Excluded 4, and
-// `*` is Unbounded. A vector has at most 16 indexes and 16 values, and a lent list at most 16 places. Before the
+// `*` is Unbounded. A vector has at most 48 indexes and 48 values, and a lent list at most 48 places. Before the
 // call, a lent list has what `.` stands for at every place.
 mod calls;
 mod read;

@@ -20,8 +20,8 @@ fn index(n: u32) {
 }
 
 // What a call left in the lent lists, which are the first n entries.
-pub fn indexes(a: &[u32; 16], n: usize)
-    requires { ⌜ n ≤ 16 ⌝ }
+pub fn indexes(a: &[u32; 48], n: usize)
+    requires { ⌜ n ≤ 48 ⌝ }
 {
     shown::text(b" |");
     let mut i: usize = 0;
@@ -31,8 +31,8 @@ pub fn indexes(a: &[u32; 16], n: usize)
     }
 }
 
-pub fn values(a: &[f32; 16], n: usize)
-    requires { ⌜ n ≤ 16 ⌝ }
+pub fn values(a: &[f32; 48], n: usize)
+    requires { ⌜ n ≤ 48 ⌝ }
 {
     shown::text(b" |");
     let mut i: usize = 0;
