@@ -39,7 +39,7 @@ fn merge(
     oi: &mut [u32],
     ov: &mut [f32],
 ) -> Both
-    requires { ⌜ Ready (vector dims (now ia) (now va)) (vector dims (now ib) (now vb)) (min (length (now ia) + length (now ib)) dims) (now oi) (now ov) ⌝ }
+    requires { ⌜ Ready (vector dims (now ia) (now va)) (vector dims (now ib) (now vb)) (roomFor Add dims (length (now ia)) (length (now ib))) (now oi) (now ov) ⌝ }
     ensures { λ r. ⌜ Fills (joins (opOf negate) (vector dims (now (ia .entry)) (now (va .entry))) (vector dims (now (ib .entry)) (now (vb .entry)))) (unionTurns (vector dims (now (ia .entry)) (now (va .entry))) (vector dims (now (ib .entry)) (now (vb .entry)))) (now (oi .entry)) (now (ov .entry)) r (now (oi .exit)) (now (ov .exit)) ⌝ }
 {
     let mut p: usize = 0;

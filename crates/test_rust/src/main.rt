@@ -32,7 +32,8 @@
 // A request may end in ` ; TEXT`, and the answer then ends so too. A line that starts with `#` is printed as it is.
 // The program stops at a line that it cannot read, and says so.
 //
-// A sparse vector has at most 256 entries, a written one 512, a state 1,024, and a bit vector 1,024 words.
+// A sparse vector has at most 256 entries, a written one 512, a state 1,024, and a bit vector 1,024 words. Add and sub
+// are lent the room that they ask for, and no more.
 mod aggregate_calls;
 mod bit_calls;
 mod bits;

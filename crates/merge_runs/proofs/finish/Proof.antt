@@ -2,7 +2,6 @@
 use Prim.Native.Nat.{_+_, _-_}
 use native.Mathlib.Omega.{arith}
 use lib.ListN.{length}
-use borrow.Author.Needs.{needs}
 use Rattle.steps.specs.Turns.{sumOf}
 use Rattle.steps.proofs.Turning.{passes}
 use Rattle.merge_runs.proofs.Loops.{Runs, runs-start, runs-steady, runs-more, ran}

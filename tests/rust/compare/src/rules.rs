@@ -1,6 +1,7 @@
 //! Which answer is owed to a request, given the Rust's: the same one, or another by a departure of docs/DIFFERENCES.md.
 //! Each rule says when the departure applies and what the answer then is, to the letter. Departures 4, 5 and 9 cannot
-//! arise: outputs have room, sums are exact in every order, and counts are small.
+//! arise: outputs have room, those of add and sub just as much as they ask for; sums are exact in every order; and counts
+//! are small.
 use crate::paper::{self, Field, Ways};
 use crate::text::{self, Bits};
 use base::scalar::bit;
