@@ -15,7 +15,7 @@ use Rattle.sparse.specs.declared.Cell.the-variants.{Empty}
 use Rattle.walks.specs.Walk.{Turned, Put}
 use Rattle.walks.specs.declared.Turn.{Turn}
 use Rattle.walks.proofs.Stores.{put-most, Written, written-none, written-empty, written-most, written-lengths, written-more}
-use Rattle.walks.proofs.Walk.{Walk, Quiet, Going, within-dims, going-start, going-more, going-end, left-cell, right-cell, in-union, place-below}
+use Rattle.walks.proofs.Walk.{Quiet, Going, within-dims, going-start, going-more, going-end, left-cell, right-cell, in-union, place-below}
 use Rattle.merges.specs.Algebra.{joined, joins, unionTurns, roomFor}
 use Rattle.merges.specs.Loops.{Ready, Fills}
 use Rattle.merges.specs.declared.Op.{Op}
@@ -102,13 +102,11 @@ module _ {op : Op} {before : ℕ} {a b : Vector} {oi : List ℕ} {ov : List Floa
 -- ---- from the first place on, to outputs of the room that add and sub ask for
 module _ {op : Op} {a b : Vector} {oi : List ℕ} {ov : List Float} (r : Ready a b (roomFor Add (a .dims) (size a) (size b)) oi ov)
     (same : a .dims ≡ b .dims) {oi′ : List ℕ} {ov′ : List Float} {p q n turns : ℕ} (m : Merging op 0 a b oi ov oi′ ov′ p q n turns) where
-  abbrev w : Walk a b p q (m .going .front)
-  w = m .going .walk
-
   pub lengths : (length oi′ ≡ length oi) × (length ov′ ≡ length ov)
   lengths =
       let f = merging-fits (r .left) (r .right) m same .0 in
-      written-lengths (m .going .holds .wrote) (omega (arith, f, w .left .within, r .room)) (omega (arith, f, w .left .within, r .room′))
+      let p-most = m .going .walk .left .within in
+      written-lengths (m .going .holds .wrote) (omega (arith, f, p-most, r .room)) (omega (arith, f, p-most, r .room′))
 
   pub fits : p + q < size a + size b → (n < length oi) × (n < length ov)
   fits h =

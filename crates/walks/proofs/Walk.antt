@@ -105,8 +105,8 @@ module _ {a b : Vector} (sa : Sound a) (sb : Sound b) {limit : ℕ} {P : ℕ →
     more = h;
   }
 
-  -- What takes no more room than places were passed fits into the dims with all that is left of either side: places rise, and are below
-  -- the dims.
+  -- A merge has never written more entries than it has passed places (`written-most`), and places rise and are below the dims. So what it has
+  -- written fits into the dims with all that is left of either side.
   pub within-dims : limit ≡ a .dims → a .dims ≡ b .dims → {n : ℕ} → n ≤ g .front → (n + size a ≤ a .dims + p) × (n + size b ≤ a .dims + q)
   within-dims all same h =
       let in-a : g .front ≤ a .dims = omega (arith, all, g .inside) in
