@@ -7,6 +7,7 @@ use crate::show;
 use cases::Shape;
 use cases::bounds;
 use cases::bounds::Ends;
+use refusal::Merged;
 ghost use Prim.Native.Nat.{_≤_};
 ghost use Rattle.cases.specs.Room.{Inside, Within};
 
@@ -27,6 +28,43 @@ fn room(dims: u32, a: usize, b: usize) -> usize
     places
 }
 
+// Runs sub, or add.
+fn sum(
+    call: Call,
+    dims_a: u32,
+    ia: &[u32],
+    va: &[f32],
+    dims_b: u32,
+    ib: &[u32],
+    vb: &[f32],
+    oi: &mut [u32],
+    ov: &mut [f32],
+) -> Merged {
+    match call {
+        Call::Sub => svect::operator_sub(dims_a, ia, va, dims_b, ib, vb, oi, ov),
+        _ => svect::operator_add(dims_a, ia, va, dims_b, ib, vb, oi, ov),
+    }
+}
+
+// Runs it with the room that it asks for, and shows what it wrote.
+fn lend(call: Call, dims_a: u32, ia: &[u32], va: &[f32], dims_b: u32, ib: &[u32], vb: &[f32]) {
+    let n = room(dims_a, ia.len(), ib.len());
+    let mut oi = [0u32; 512];
+    let mut ov = [0.0f32; 512];
+    let r = sum(
+        call,
+        dims_a,
+        ia,
+        va,
+        dims_b,
+        ib,
+        vb,
+        &mut oi[0..n],
+        &mut ov[0..n],
+    );
+    show::merged(r, &oi, &ov);
+}
+
 // Runs a call that writes a vector. Answers whether there is one of this name.
 fn write(
     call: Call,
@@ -40,36 +78,11 @@ fn write(
 ) -> bool {
     let from = ends.from;
     let to = ends.to;
-    let n = room(dims_a, ia.len(), ib.len());
     let mut oi = [0u32; 512];
     let mut ov = [0.0f32; 512];
     match call {
-        Call::Add => {
-            let r = svect::operator_add(
-                dims_a,
-                ia,
-                va,
-                dims_b,
-                ib,
-                vb,
-                &mut oi[0..n],
-                &mut ov[0..n],
-            );
-            show::merged(r, &oi, &ov);
-        }
-        Call::Sub => {
-            let r = svect::operator_sub(
-                dims_a,
-                ia,
-                va,
-                dims_b,
-                ib,
-                vb,
-                &mut oi[0..n],
-                &mut ov[0..n],
-            );
-            show::merged(r, &oi, &ov);
-        }
+        Call::Add => lend(call, dims_a, ia, va, dims_b, ib, vb),
+        Call::Sub => lend(call, dims_a, ia, va, dims_b, ib, vb),
         Call::Mul => {
             let r = svect::operator_mul(dims_a, ia, va, dims_b, ib, vb, &mut oi, &mut ov);
             show::merged(r, &oi, &ov);
