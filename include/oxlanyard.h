@@ -90,9 +90,16 @@ uint32_t oxl_bvect_operator_dot(uint32_t dims_a, const uint64_t *a, size_t a_len
 uint32_t oxl_bvect_operator_hamming(uint32_t dims_a, const uint64_t *a, size_t a_len, uint32_t dims_b,
                                     const uint64_t *b, size_t b_len, float *value, size_t *place);
 
-/* *value: 1 - ones of AND / ones of OR; NaN if there are no ones. Refuses: left, right, DIFFER. */
+/*
+ * *value: 1 - ones of AND / ones of OR. Two vectors without ones are alike: +0. Never NaN. Refuses: left, right, DIFFER.
+ * Before, two vectors without ones had NaN. A report that counts those calls oxl_bvect_operator_jaccard_or_nan.
+ */
 uint32_t oxl_bvect_operator_jaccard(uint32_t dims_a, const uint64_t *a, size_t a_len, uint32_t dims_b,
                                     const uint64_t *b, size_t b_len, float *value, size_t *place);
+
+/* The same, but NaN for two vectors without ones, and for no others: test it by value != value. */
+uint32_t oxl_bvect_operator_jaccard_or_nan(uint32_t dims_a, const uint64_t *a, size_t a_len, uint32_t dims_b,
+                                           const uint64_t *b, size_t b_len, float *value, size_t *place);
 
 /* Writes a AND b. *dims, *len: its dims and words. Refuses: left, right, DIFFER, ROOM [words]. */
 uint32_t oxl_bvect_operator_and(uint32_t dims_a, const uint64_t *a, size_t a_len, uint32_t dims_b, const uint64_t *b,

@@ -2,7 +2,7 @@
 use crate::cases::{grouped, growth::SIZES};
 use crate::results::{Measured, Results};
 use crate::targets::{judged, shown as ratio, verdict, Judged};
-use crate::timing::{COPY, OURS, OWNED, RUST};
+use crate::timing::{COPY, OURS, OWNED, RUST, TWIN};
 
 /// A table with columns of even width; numbers stand to the right. Without rows it is nothing.
 fn table(head: &[&str], rows: &[Vec<String>]) -> String {
@@ -110,7 +110,7 @@ fn beside(others: &Others, plain: &Results, native: Option<&Results>) -> String 
 }
 
 fn peers(plain: &Results, native: Option<&Results>) -> String {
-    let row = |m: &Measured| (m.other != RUST && m.other != COPY).then(|| format!("{}: {}", m.other, m.case));
+    let row = |m: &Measured| (![RUST, COPY, TWIN].contains(&&m.other[..])).then(|| format!("{}: {}", m.other, m.case));
     beside(&Others { name: "peer", row, has_targets: false }, plain, native)
 }
 
@@ -118,6 +118,12 @@ fn peers(plain: &Results, native: Option<&Results>) -> String {
 fn copies(plain: &Results, native: Option<&Results>) -> String {
     let row = |m: &Measured| (m.other == COPY).then(|| m.case.clone());
     beside(&Others { name: "copy", row, has_targets: true }, plain, native)
+}
+
+/// Two calls of ours that do the same work, each by the other.
+fn twins(plain: &Results, native: Option<&Results>) -> String {
+    let row = |m: &Measured| (m.other == TWIN).then(|| m.case.clone());
+    beside(&Others { name: "twin", row, has_targets: true }, plain, native)
 }
 
 fn growth(results: &Results) -> String {
@@ -160,6 +166,7 @@ pub fn report(plain: &Results, native: Option<&Results>) -> String {
     parts.push((format!("Ours with owned answers, built for {kind}"), owned(plain)));
     let also = native.map_or("", |_| ", then for this processor");
     parts.push((format!("A copy of the answer's bytes, built for {kind}{also}"), copies(plain, native)));
+    parts.push((format!("Two calls of ours, each by the other, built for {kind}{also}"), twins(plain, native)));
     parts.push((format!("Peers, built for {kind}{also}"), peers(plain, native)));
     parts.push((format!("Growth, built for {kind}"), growth(plain)));
     parts.push(("Allocations of ours".into(), allocations(plain)));

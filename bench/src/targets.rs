@@ -1,6 +1,6 @@
 //! What is to be reached, and whether it is.
 use crate::results::{Measured, Results};
-use crate::timing::{COPY, EIGEN, OURS, RUST};
+use crate::timing::{COPY, EIGEN, OURS, RUST, TWIN};
 use std::fmt::{Display, Formatter, Result};
 
 /// What all sides are built for.
@@ -30,6 +30,8 @@ pub enum Of {
     Better,
     /// A plain copy of the answer.
     Copy,
+    /// The other one of two calls of ours.
+    Twin,
 }
 
 impl Of {
@@ -38,6 +40,7 @@ impl Of {
             Of::Rust => "the Rust",
             Of::Better => "the better",
             Of::Copy => "the copy",
+            Of::Twin => "the twin",
         }
     }
 
@@ -46,6 +49,7 @@ impl Of {
         match self {
             Of::Rust | Of::Better => RUST,
             Of::Copy => COPY,
+            Of::Twin => TWIN,
         }
     }
 }
@@ -79,6 +83,10 @@ pub fn of_copy(at_most: f64) -> Option<Target> {
     Some(Target { at_most, of: Of::Copy })
 }
 
+pub fn of_twin(at_most: f64) -> Option<Target> {
+    Some(Target { at_most, of: Of::Twin })
+}
+
 impl Display for Target {
     fn fmt(&self, f: &mut Formatter) -> Result {
         write!(f, "{} of {}", shown(self.at_most), self.of.name())
@@ -89,7 +97,7 @@ impl Target {
     /// Reads what is shown.
     pub fn read(text: &str) -> Option<Self> {
         let (at_most, name) = text.split_once(" of ")?;
-        let of = [Of::Rust, Of::Better, Of::Copy].into_iter().find(|of| of.name() == name)?;
+        let of = [Of::Rust, Of::Better, Of::Copy, Of::Twin].into_iter().find(|of| of.name() == name)?;
         Some(Target { at_most: at_most.parse().ok()?, of })
     }
 
@@ -135,7 +143,7 @@ pub fn judged(results: &Results) -> impl Iterator<Item = Judged<'_>> {
 
 #[cfg(test)]
 mod tests {
-    use super::{judged, of_better, of_copy, of_rust, shown, Target, EIGEN, OURS, RUST};
+    use super::{judged, of_better, of_copy, of_rust, of_twin, shown, Target, EIGEN, OURS, RUST};
     use crate::results::{Measured, Results};
     use crate::timing::Spread;
 
@@ -173,7 +181,7 @@ mod tests {
 
     #[test]
     fn a_target_is_read_as_it_is_shown() {
-        for target in [of_rust(0.003), of_better(0.8), of_copy(2.0)].into_iter().flatten() {
+        for target in [of_rust(0.003), of_better(0.8), of_copy(2.0), of_twin(1.05)].into_iter().flatten() {
             assert_eq!(Target::read(&target.to_string()), Some(target));
         }
         assert_eq!(Target::read("-"), None);

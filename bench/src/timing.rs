@@ -39,6 +39,8 @@ pub const EIGEN: &str = "Eigen";
 pub const OWNED: &str = "owned";
 /// A plain copy of the answer.
 pub const COPY: &str = "copy";
+/// The other one of two calls of ours that do the same work.
+pub const TWIN: &str = "twin";
 
 impl<'a> Side<'a> {
     /// Calls in a row, all of it timed.

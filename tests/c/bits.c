@@ -46,11 +46,17 @@ static void bits_distances(void)
     EXPECT(oxl_bvect_operator_dot(4, a, 1, 5, b, 1, &value, &place) == OXL_DIFFER && place == 0 && value == OLD);
     EXPECT(oxl_bvect_operator_hamming(4, a, 1, 0, b, 1, &value, &place) == OXL_DIMS && value == OLD);
     EXPECT(oxl_bvect_operator_jaccard(3, a, 1, 4, b, 1, &value, &place) == OXL_PADDING && value == OLD);
+    EXPECT(oxl_bvect_operator_jaccard_or_nan(4, none, 1, 5, none, 1, &value, &place) == OXL_DIFFER && value == OLD);
     EXPECT(oxl_bvect_operator_dot(4, a, 1, 4, b, 1, &value, &place) == OXL_DONE && bits_of(value) == 0xbf800000);
     EXPECT(oxl_bvect_operator_hamming(4, a, 1, 4, b, 1, &value, &place) == OXL_DONE && bits_of(value) == 0x40000000);
     EXPECT(oxl_bvect_operator_jaccard(4, a, 1, 4, b, 1, &value, &place) == OXL_DONE && bits_of(value) == 0x3f2aaaaa);
     EXPECT(oxl_bvect_operator_dot(4, none, 1, 4, none, 1, &value, &place) == OXL_DONE && bits_of(value) == 0x80000000);
-    EXPECT(oxl_bvect_operator_jaccard(4, none, 1, 4, none, 1, &value, &place) == OXL_DONE && value != value);
+    EXPECT(oxl_bvect_operator_jaccard(4, none, 1, 5, none, 1, &value, &place) == OXL_DIFFER &&
+           bits_of(value) == 0x80000000);
+    EXPECT(oxl_bvect_operator_jaccard(4, none, 1, 4, none, 1, &value, &place) == OXL_DONE && bits_of(value) == 0);
+    EXPECT(oxl_bvect_operator_jaccard_or_nan(4, none, 1, 4, none, 1, &value, &place) == OXL_DONE && value != value);
+    EXPECT(oxl_bvect_operator_jaccard_or_nan(4, a, 1, 4, b, 1, &value, &place) == OXL_DONE &&
+           bits_of(value) == 0x3f2aaaaa);
 }
 
 typedef uint32_t bits_call(uint32_t, const uint64_t *, size_t, uint32_t, const uint64_t *, size_t, uint64_t *, size_t,

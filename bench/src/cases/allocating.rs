@@ -32,6 +32,7 @@ fn bit_calls(watch: &mut Watch) {
     watch.call("bit dot", || a.operator_dot(b));
     watch.call("Hamming", || a.operator_hamming(b));
     watch.call("Jaccard", || a.operator_jaccard(b));
+    watch.call("Jaccard or NaN", || a.operator_jaccard_or_nan(b));
     watch.call("AND", || a.operator_and_into(b, &mut out).map(|_| ()));
     watch.call("OR", || a.operator_or_into(b, &mut out).map(|_| ()));
     watch.call("XOR", || a.operator_xor_into(b, &mut out).map(|_| ()));

@@ -2,8 +2,8 @@
 use super::{copying, Bench};
 use crate::data::{Maker, BITS};
 use crate::peers::{self, Roaring};
-use crate::targets::{of_copy, of_rust};
-use crate::timing::{Side, COPY, OURS, OWNED, RUST};
+use crate::targets::{of_copy, of_rust, of_twin};
+use crate::timing::{Side, COPY, OURS, OWNED, RUST, TWIN};
 use base::scalar::bit;
 use base::vector::{BVectBorrowed, BVectOwned, VectorBorrowed, VectorOwned};
 use std::hint::black_box;
@@ -48,12 +48,9 @@ fn words<'a>(two: &'a Two, words: Words<'a>, peer: Roaring) -> Vec<Side<'a>> {
     sides
 }
 
-fn count<'a>(
-    two: &'a Two,
-    count: fn(Ours<'a>, Ours<'a>) -> f32,
-    rust_count: fn(Rust<'a>, Rust<'a>) -> f32,
-    peer: Roaring,
-) -> Vec<Side<'a>> {
+type Count<T> = fn(T, T) -> f32;
+
+fn count<'a>(two: &'a Two, count: Count<Ours<'a>>, rust_count: Count<Rust<'a>>, peer: Roaring) -> Vec<Side<'a>> {
     let (a, b) = (ours(&two[0]), ours(&two[1]));
     let (x, y) = (Rust::new(BITS, &two[0]), Rust::new(BITS, &two[1]));
     assert_eq!(count(a, b).to_bits(), rust_count(x, y).to_bits());
@@ -66,6 +63,17 @@ fn count<'a>(
         }),
     ];
     sides.extend(peers::roaring(two, peer));
+    sides
+}
+
+/// One of the two calls of Jaccard, and the other as its twin.
+fn jaccard<'a>(two: &'a Two, call: Count<Ours<'a>>, twin: Count<Ours<'a>>) -> Vec<Side<'a>> {
+    let (a, b) = (ours(&two[0]), ours(&two[1]));
+    assert_eq!(call(a, b).to_bits(), twin(a, b).to_bits());
+    let mut sides = count(two, call, |a, b| a.operator_jaccard(b).to_f32(), Roaring::Jaccard);
+    sides.push(Side::new(TWIN, move || {
+        black_box(twin(black_box(a), black_box(b)));
+    }));
     sides
 }
 
@@ -125,7 +133,11 @@ pub fn run(bench: &mut Bench) {
     let target = of_rust(0.9);
     bench.case("ones of AND, 65,535 bits", target, || count!(&two, operator_dot, Roaring::OnesOfAnd));
     bench.case("Hamming, 65,535 bits", target, || count!(&two, operator_hamming, Roaring::Hamming));
-    bench.case("Jaccard, 65,535 bits", target, || count!(&two, operator_jaccard, Roaring::Jaccard));
+    let by_default: Count<Ours> = |a, b| a.operator_jaccard(b).expect("valid vectors");
+    let or_nan: Count<Ours> = |a, b| a.operator_jaccard_or_nan(b).expect("valid vectors");
+    let targets = || target.into_iter().chain(of_twin(1.05));
+    bench.case("Jaccard, 65,535 bits", targets(), || jaccard(&two, by_default, or_nan));
+    bench.case("Jaccard or NaN, 65,535 bits", targets(), || jaccard(&two, or_nan, by_default));
     for start in [0, 3, 63, 64] {
         let targets = [of_rust(0.003), of_copy(2.0)].into_iter().flatten();
         bench.case(&format!("bit slice, 65,000 bits from bit {start}"), targets, || slice(&two[0], start));

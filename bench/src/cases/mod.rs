@@ -83,7 +83,7 @@ impl Bench {
         let rounds = Rounds::of(sides);
         assert!(sides[0].name == OURS && sides[1].name == RUST);
         for k in 1..sides.len() {
-            // Peers and the copy are others of ours. Where ours owns its answer, the other is the Rust.
+            // Peers, the copy and the twin are others of ours. Where ours owns its answer, the other is the Rust.
             let (side, other) = if sides[k].name == OWNED { (k, 1) } else { (0, k) };
             let measured = Measured {
                 case: name.into(),

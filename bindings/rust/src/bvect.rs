@@ -125,10 +125,29 @@ impl<'a> BVectBorrowed<'a> {
         calls::distance(Distance::Hamming, self.bits(), rhs.bits())
     }
 
-    /// 1 less the quotient of common ones and ones of either; NaN if there are none. Refuses with DIFFER.
+    /// 1 less the quotient of common ones and ones of either. Two vectors without ones are alike: +0. It is never NaN.
+    /// Refuses with DIFFER.
+    ///
+    /// The Rust original answers NaN for two vectors without ones, and so did this call before. Who counts those NaNs
+    /// calls [`operator_jaccard_or_nan`](Self::operator_jaccard_or_nan).
+    ///
+    /// ```
+    /// # use oxlanyard::{BVectBorrowed, Refusal};
+    /// let bare = BVectBorrowed::new_checked(4, &[0])?;
+    /// assert_eq!(bare.operator_jaccard(bare)?, 0.0);
+    /// assert!(bare.operator_jaccard_or_nan(bare)?.is_nan());
+    /// # Ok::<(), Refusal>(())
+    /// ```
     #[inline]
     pub fn operator_jaccard(self, rhs: Self) -> Result<f32, Refusal> {
         calls::distance(Distance::Jaccard, self.bits(), rhs.bits())
+    }
+
+    /// As [`operator_jaccard`](Self::operator_jaccard), but NaN for two vectors without ones, and for no others: the
+    /// answer of the Rust original. Refuses with DIFFER.
+    #[inline]
+    pub fn operator_jaccard_or_nan(self, rhs: Self) -> Result<f32, Refusal> {
+        calls::distance(Distance::JaccardOrNan, self.bits(), rhs.bits())
     }
 
     /// The ones that both have. Refuses with DIFFER.

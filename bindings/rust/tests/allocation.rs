@@ -56,6 +56,7 @@ fn vectors_in_lent_lists() {
         a.operator_dot(b)?;
         a.operator_hamming(b)?;
         a.operator_jaccard(b)?;
+        a.operator_jaccard_or_nan(b)?;
         assert!(a.get(64)? && a != b && a < b);
         assert!(a.subvector_into(66.., &mut out).is_err());
         Ok(())

@@ -61,13 +61,54 @@ fn distances() {
     assert_eq!(a.operator_dot(b).unwrap().to_bits(), 0xbf80_0000);
     assert_eq!(a.operator_hamming(b).unwrap().to_bits(), 0x4000_0000);
     assert_eq!(a.operator_jaccard(b).unwrap().to_bits(), 0x3f2a_aaaa);
+    assert_eq!(a.operator_jaccard_or_nan(b).unwrap().to_bits(), 0x3f2a_aaaa);
     assert_eq!(none.operator_dot(none).unwrap().to_bits(), 0x8000_0000);
     assert_eq!(none.operator_hamming(none).unwrap().to_bits(), 0);
-    assert!(none.operator_jaccard(none).unwrap().is_nan());
+    assert_eq!(none.operator_jaccard(none).unwrap().to_bits(), 0);
+    assert!(none.operator_jaccard_or_nan(none).unwrap().is_nan());
     let other = bits(5, &[12]);
     assert_eq!(refused(a.operator_dot(other)), (Reason::Differ, 0));
     assert_eq!(refused(a.operator_hamming(other)), (Reason::Differ, 0));
     assert_eq!(refused(a.operator_jaccard(other)), (Reason::Differ, 0));
+    assert_eq!(refused(a.operator_jaccard_or_nan(other)), (Reason::Differ, 0));
+}
+
+/// Both calls of Jaccard on every two vectors of up to 5 bits: they differ for two without ones, and for no others.
+#[test]
+fn jaccard_of_short_vectors() {
+    for dims in 1..=5 {
+        for (a, b) in (0..1_u64 << dims).flat_map(|a| (0..1 << dims).map(move |b| (a, b))) {
+            let (x, y) = ([a], [b]);
+            let by_default = bits(dims, &x).operator_jaccard(bits(dims, &y)).unwrap();
+            let or_nan = bits(dims, &x).operator_jaccard_or_nan(bits(dims, &y)).unwrap();
+            if a | b == 0 {
+                assert!(by_default.to_bits() == 0 && or_nan.is_nan());
+            } else {
+                let due = 1.0 - (a & b).count_ones() as f32 / (a | b).count_ones() as f32;
+                assert_eq!([by_default.to_bits(), or_nan.to_bits()], [due.to_bits(); 2], "{dims} bits, {a:b} and {b:b}");
+            }
+        }
+    }
+}
+
+/// Vectors without ones, around the ends of words and at the limit; and what a single one changes.
+#[test]
+fn jaccard_without_ones() {
+    for dims in [1, 63, 64, 65, 127, 128, 129, 65_534, 65_535] {
+        let words = vec![0; dims.div_ceil(64) as usize];
+        let none = bits(dims, &words);
+        assert_eq!(none.operator_jaccard(none).unwrap().to_bits(), 0);
+        assert!(none.operator_jaccard_or_nan(none).unwrap().is_nan());
+        for at in [0, dims / 2, dims - 1] {
+            let mut words = words.clone();
+            words[at as usize / 64] |= 1 << (at % 64);
+            let one = bits(dims, &words);
+            for (a, b, due) in [(one, none, 1.0_f32), (none, one, 1.0), (one, one, 0.0)] {
+                assert_eq!(a.operator_jaccard(b).unwrap().to_bits(), due.to_bits());
+                assert_eq!(a.operator_jaccard_or_nan(b).unwrap().to_bits(), due.to_bits());
+            }
+        }
+    }
 }
 
 /// P8. The Rust's `operator_and` would answer 12.

@@ -87,7 +87,8 @@ fn refusals_of_two_bit_vectors() {
 /// A float slot is left as it was by a refusal; the place is set.
 #[test]
 fn floats_beside_a_refusal() {
-    for call in [oxl_bvect_operator_dot, oxl_bvect_operator_hamming, oxl_bvect_operator_jaccard] {
+    let jaccards = [oxl_bvect_operator_jaccard, oxl_bvect_operator_jaccard_or_nan];
+    for call in [oxl_bvect_operator_dot, oxl_bvect_operator_hamming].into_iter().chain(jaccards) {
         let (words, mut value, mut place) = ([1_u64], -7.5, 7);
         // SAFETY: the lists are an array of our own, and so are the slots.
         let number = unsafe { call(1, words.as_ptr(), 1, 2, words.as_ptr(), 1, &mut value, &mut place) };

@@ -2,10 +2,10 @@
 use Prim.Native.Nat.{ℕ, _≤_}
 use native.Mathlib.Omega.{arith}
 use mathlib.Core.List.{List}
-use mathlib.Core.Path.{_≡_, refl, sym, _∙_}
+use mathlib.Core.Path.{_≡_, sym, _∙_}
 use lib.Dec.{T}
 use lib.IntN.{pos}
-use lib.Ieee.{binary32, ofBits, ofInt, inFloat}
+use lib.Ieee.{binary32, inFloat}
 use Rattle.places.specs.Below.{countBelow}
 use Rattle.places.proofs.Below.{count-most}
 use Rattle.whole.proofs.Numbers.{in-float}
@@ -21,11 +21,6 @@ use Rattle.bit.specs.declared.Count.the-variants.{Ones, Refused as NoCount}
 use Rattle.bit.specs.declared.Counts.{Counts}
 use Rattle.bit.specs.declared.Counts.the-variants.{Ones as Both, Refused as NoCounts}
 use Rattle.bit.proofs.Counted.{count-done, count-refused, counts-done, counts-refused}
-
--- the code's 1.0
-pub one-float : ofBits binary32 1065353216 ≡ ofInt binary32 (pos 1)
-unfolding ofBits ofInt
-one-float = refl
 
 module _ (d : ℕ) (a : List ℕ) (e : ℕ) (b : List ℕ) where
   -- a count of bits is a float exactly

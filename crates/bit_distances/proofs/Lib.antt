@@ -1,2 +1,4 @@
--- Laws of counts as floats.
+-- Laws of counts as floats, and of Jaccard.
 pub mod Counts
+pub mod Jaccards
+pub mod Nan

@@ -16,7 +16,7 @@ use Rattle.refusal.specs.declared.Ordering.the-variants.{Unordered}
 use Rattle.bits.specs.Bits.{bitAt, wordsOf}
 use Rattle.bits.specs.Calls.{badDims, checkedOf, eachOf, roomOf}
 use Rattle.bit_orders.specs.Orders.{sameWords, orderBelow}
-pub use Rattle.bit_distances.specs.Calls.{Dots, Hammings, Jaccards}
+pub use Rattle.bit_distances.specs.Calls.{Dots, Hammings, Jaccards, JaccardsOrNan}
 
 -- "ceil(dims/64) words of room, as for AND, OR, XOR and zero"; without a vector to test, dims and then room
 abbrev pub Zeroes : ℕ → List ℕ → Written → List ℕ → Type 0

@@ -4,6 +4,7 @@
 pub use bit_distances::operator_dot;
 pub use bit_distances::operator_hamming;
 pub use bit_distances::operator_jaccard;
+pub use bit_distances::operator_jaccard_or_nan;
 use refusal::Asked;
 use refusal::Bound;
 use refusal::Checked;

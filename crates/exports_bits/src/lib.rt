@@ -7,7 +7,7 @@ ghost use Rattle.refusal.specs.Answers.{gives, says, checkedSays, distanceSays,
 ghost use Rattle.bits.specs.Calls.{checkedOf};
 ghost use Rattle.bit_words.specs.declared.Op.the-variants.{And, Or, Xor};
 ghost use Rattle.bit.specs.Calls.{Combines};
-ghost use Rattle.bvect.specs.Calls.{Zeroes, Gets, Dots, Hammings, Jaccards, Cuts, Equals, Compares};
+ghost use Rattle.bvect.specs.Calls.{Zeroes, Gets, Dots, Hammings, Jaccards, JaccardsOrNan, Cuts, Equals, Compares};
 ghost use Rattle.exports_answers.specs.Answers.{Tells, heard};
 ghost use Rattle.exports_answers.specs.Bounds.{startBound, endBound};
 
@@ -106,6 +106,29 @@ pub extern "C" fn oxl_bvect_operator_jaccard(
         ⌝ }
 {
     exports_answers::tell_distance(bvect::operator_jaccard(dims_a, a, dims_b, b), value, place)
+}
+
+// The numbers of `bvect::operator_jaccard_or_nan`.
+#[no_mangle]
+pub extern "C" fn oxl_bvect_operator_jaccard_or_nan(
+    dims_a: u32,
+    a: &[u64],
+    dims_b: u32,
+    b: &[u64],
+    value: &mut f32,
+    place: &mut usize,
+) -> u32
+    ensures { λ r. ⌜
+        Tells (λ d. heard (now (value .entry) ∷ []) (distanceSays d))
+        (JaccardsOrNan «dims_a» (now (a .entry)) «dims_b» (now (b .entry)))
+        (gives r (now (place .exit)) [] (now (value .exit) ∷ []))
+        ⌝ }
+{
+    exports_answers::tell_distance(
+        bvect::operator_jaccard_or_nan(dims_a, a, dims_b, b),
+        value,
+        place,
+    )
 }
 
 // The numbers of `bvect::operator_and`, with the dims and the words of what was written.

@@ -36,6 +36,7 @@ figures = record {
   P8-jaccard = refl;
   P9-dot = refl;
   P9-jaccard = refl;
+  P9-jaccard-or-nan = refl;
   P10 = record { told = refl; answer = refl };
   P10-words = record { told = refl; answer = refl };
   P11-0 = refl;

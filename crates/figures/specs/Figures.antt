@@ -16,7 +16,7 @@ use Rattle.bits.specs.Bits.{wordsOf}
 use Rattle.bits.specs.Calls.{checkedOf as checkedBits}
 use Rattle.bit_words.specs.Ops.{meets}
 use Rattle.bit_words.specs.declared.Op.the-variants.{And, Or, Xor}
-use Rattle.bit_distances.specs.Distances.{dotOf, hammingOf, jaccardOf}
+use Rattle.bit_distances.specs.Distances.{dotOf, hammingOf, jaccardOf, jaccardOrNanOf}
 use Rattle.bvect.specs.Calls.{Compares as ComparesBits}
 use Rattle.sparse.specs.Vectors.{Vector, vector}
 use Rattle.sparse.specs.Calls.{checkedOf}
@@ -107,7 +107,9 @@ pub record Figures : Type 0 where
   pub P8-jaccard : jaccardOf 4 twelve ten ≡ bits 0x3f2aaaaa
   -- "P9 two zero bit vectors: dot bits 80000000, Jaccard NaN."
   pub P9-dot : dotOf 4 none none ≡ bits 0x80000000
-  pub P9-jaccard : jaccardOf 4 none none ≡ nan
+  -- request #106: "Figure P9 changes for the default call"; the second keeps it
+  pub P9-jaccard : jaccardOf 4 none none ≡ bits 0x00000000
+  pub P9-jaccard-or-nan : jaccardOrNanOf 4 none none ≡ nan
   -- "P10 dims 4: {1: -1.0} against {}: Less. Words 1 against 2: Greater."
   pub P10 : Compares (vector 4 (1 ∷ []) (minus 1 ∷ [])) (vector 4 [] []) Less
   pub P10-words : ComparesBits 4 (1 ∷ []) 4 (2 ∷ []) Greater

@@ -1,28 +1,17 @@
--- What a distance that was answered tells of its tests, and what three sums answer. Assumes nothing.
-use Prim.Native.Nat.{ℕ}
-use native.Mathlib.Omega.{arith}
+-- What three sums answer, and that what they say decides them. Assumes nothing.
 use mathlib.Core.List.{List, [], _∷_}
 use mathlib.Core.Path.{_≡_, refl}
 use lib.Ieee.{Float}
 use lib.ListN.{getD}
-use Rattle.refusal.specs.Answers.{Says, tells, Answers, distanceOf}
+use Rattle.refusal.specs.Answers.{Says, tells, Answers}
 use Rattle.refusal.specs.declared.Checked.{Checked}
 use Rattle.refusal.specs.declared.Checked.the-variants.{Valid, Refused}
-use Rattle.refusal.specs.declared.Distance.the-variants.{Value, Refused as NoDistance}
 use Rattle.refusal.proofs.Told.{answered}
 use Rattle.refusal.proofs.Decides.{decided}
 use Rattle.folds.specs.Calls.{floatsOf, summedSays, summedOf}
 use Rattle.folds.specs.declared.Summed.{Summed}
 use Rattle.folds.specs.declared.Summed.the-variants.{Sums, Refused as NotSummed}
 use Rattle.sums.specs.declared.Three.{Three}
-
-pub value-told : (x y : Float) (due : Checked) → distanceOf x due ≡ Value y → (due ≡ Valid) × (y ≡ x)
-value-told x y Valid e = let same : y ≡ x = cc in (refl, same)
-value-told x y (Refused n p) e = let z : _≡_ {A = ℕ} 0 1 = cc in absurd (omega arith)
-
-pub refusal-told : (x : Float) (due : Checked) (n p : ℕ) → distanceOf x due ≡ NoDistance n p → due ≡ Refused n p
-refusal-told x Valid n p e = let z : _≡_ {A = ℕ} 0 1 = cc in absurd (omega arith)
-refusal-told x (Refused m q) n p e = let a : m ≡ n = cc in let b : q ≡ p = cc in rw (a, b)
 
 summed-fair : (t : Three) (due : Checked) → summedSays (summedOf t due) ≡ tells [] (floatsOf t) due
 summed-fair t Valid = refl

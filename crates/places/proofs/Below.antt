@@ -81,6 +81,12 @@ unfolding countBelow
 count-most t zero = omega arith
 count-most t (suc n) = omega (arith, count-most t n, one-most (t n))
 
+-- a test that passes wherever another does is passed at least as often
+pub count-fewer : (t u : ℕ → Bool) (n : ℕ) → ((i : ℕ) → one (t i) ≤ one (u i)) → countBelow t n ≤ countBelow u n
+unfolding countBelow
+count-fewer t u zero h = omega arith
+count-fewer t u (suc n) h = omega (arith, count-fewer t u n h, h n)
+
 -- ---- some place
 
 pub any-false : (t : ℕ → Bool) (n i : ℕ) → anyBelow t n ≡ false → i < n → t i ≡ false

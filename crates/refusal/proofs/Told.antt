@@ -1,5 +1,6 @@
 -- An answer that is the due one says the number and place of what the tests found: one law for each kind of answer. Assumes nothing.
 use Prim.Native.Nat.{ℕ}
+use native.Mathlib.Omega.{arith}
 use mathlib.Core.Bool.{Bool, true, false, cond}
 use mathlib.Core.List.{List, [], _∷_, _++_}
 use mathlib.Core.Path.{_≡_, refl, sym, ap, _∙_}
@@ -10,6 +11,7 @@ use Rattle.refusal.specs.Answers.{same, checkedSays, distanceSays, dista
 use Rattle.refusal.specs.declared.Checked.{Checked}
 use Rattle.refusal.specs.declared.Checked.the-variants.{Valid, Refused}
 use Rattle.refusal.specs.declared.Distance.{Distance}
+use Rattle.refusal.specs.declared.Distance.the-variants.{Value, Refused as NoDistance}
 use Rattle.refusal.specs.declared.Written.{Written}
 use Rattle.refusal.specs.declared.Written.the-variants.{Done, Refused as NotWritten}
 use Rattle.refusal.specs.declared.Merged.{Merged}
@@ -34,6 +36,15 @@ distance-fair x (Refused n p) = refl
 
 pub distance-answer : (x : Float) {due : Checked} {r : Distance} → r ≡ distanceOf x due → Measures x due r
 distance-answer x e = answered distanceSays (tells [] (x ∷ [])) (distanceOf x) (distance-fair x) e
+
+-- and back: what a distance tells of the tests
+pub value-told : (x y : Float) (due : Checked) → distanceOf x due ≡ Value y → (due ≡ Valid) × (y ≡ x)
+value-told x y Valid e = let same : y ≡ x = cc in (refl, same)
+value-told x y (Refused n p) e = let z : _≡_ {A = ℕ} 0 1 = cc in absurd (omega arith)
+
+pub refusal-told : (x : Float) (due : Checked) (n p : ℕ) → distanceOf x due ≡ NoDistance n p → due ≡ Refused n p
+refusal-told x Valid n p e = let z : _≡_ {A = ℕ} 0 1 = cc in absurd (omega arith)
+refusal-told x (Refused m q) n p e = let a : m ≡ n = cc in let b : q ≡ p = cc in rw (a, b)
 
 written-fair : (d len : ℕ) (due : Checked) → writtenSays (writtenOf d len due) ≡ tells (d ∷ len ∷ []) [] due
 written-fair d len Valid = refl

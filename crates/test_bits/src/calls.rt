@@ -71,6 +71,8 @@ fn distances(dims_a: u32, a: &[u64], dims_b: u32, b: &[u64]) {
     shown::distance(bvect::operator_hamming(dims_a, a, dims_b, b));
     shown::text(b"; jaccard");
     shown::distance(bvect::operator_jaccard(dims_a, a, dims_b, b));
+    shown::text(b"; jaccard_or_nan");
+    shown::distance(bvect::operator_jaccard_or_nan(dims_a, a, dims_b, b));
 }
 
 fn pair(dims_a: u32, a: &[u64], dims_b: u32, b: &[u64]) {

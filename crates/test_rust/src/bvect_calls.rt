@@ -43,6 +43,7 @@ pub fn run(call: Call, dims_a: u32, a: &[u64], dims_b: u32, b: &[u64], ends: End
         Call::Dot => show::distance(bvect::operator_dot(dims_a, a, dims_b, b)),
         Call::Hamming => show::distance(bvect::operator_hamming(dims_a, a, dims_b, b)),
         Call::Jaccard => show::distance(bvect::operator_jaccard(dims_a, a, dims_b, b)),
+        Call::JaccardOrNan => show::distance(bvect::operator_jaccard_or_nan(dims_a, a, dims_b, b)),
         Call::Eq => shown::bare::asked(bvect::eq(dims_a, a, dims_b, b)),
         Call::Order => shown::bare::ordering(bvect::partial_cmp(dims_a, a, dims_b, b)),
         _ => return write(call, dims_a, a, dims_b, b, ends),

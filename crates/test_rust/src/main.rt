@@ -6,7 +6,7 @@
 //     svect add | V | V          also sub, mul, dot, l2, eq, order
 //     svect part | V | BOUND BOUND
 //     bvect check | B            bvect zero | N           bvect get | B | N
-//     bvect and | B | B          also or, xor, dot, hamming, jaccard, eq, order
+//     bvect and | B | B          also or, xor, dot, hamming, jaccard, jaccard_or_nan, eq, order
 //     bvect part | B | BOUND BOUND
 //     bit one | B
 //     bit counts | B | B

@@ -12,6 +12,7 @@ pub(crate) enum Distance {
     Dot,
     Hamming,
     Jaccard,
+    JaccardOrNan,
 }
 
 #[derive(Clone, Copy)]
@@ -54,6 +55,7 @@ pub(crate) fn distance(which: Distance, (da, a): Bits<'_>, (db, b): Bits<'_>) ->
         Distance::Dot => ffi::oxl_bvect_operator_dot,
         Distance::Hamming => ffi::oxl_bvect_operator_hamming,
         Distance::Jaccard => ffi::oxl_bvect_operator_jaccard,
+        Distance::JaccardOrNan => ffi::oxl_bvect_operator_jaccard_or_nan,
     };
     let (mut value, mut place) = (0.0, 0);
     // SAFETY: the lists are slices and the slots are ours.

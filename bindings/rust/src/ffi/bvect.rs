@@ -43,8 +43,19 @@ extern "C" {
         value: *mut f32,
         place: *mut usize,
     ) -> u32;
-    /// The Jaccard distance.
+    /// The Jaccard distance; +0 for two vectors without ones.
     pub fn oxl_bvect_operator_jaccard(
+        dims_a: u32,
+        a: *const u64,
+        a_len: usize,
+        dims_b: u32,
+        b: *const u64,
+        b_len: usize,
+        value: *mut f32,
+        place: *mut usize,
+    ) -> u32;
+    /// The Jaccard distance; NaN for two vectors without ones.
+    pub fn oxl_bvect_operator_jaccard_or_nan(
         dims_a: u32,
         a: *const u64,
         a_len: usize,

@@ -80,6 +80,7 @@ fn bvect(call: &str, f: &[&str]) -> Answer {
         "dot" => float(a.operator_dot(b)?),
         "hamming" => float(a.operator_hamming(b)?),
         "jaccard" => float(a.operator_jaccard(b)?),
+        "jaccard_or_nan" => float(a.operator_jaccard_or_nan(b)?),
         "eq" => yes(a == b),
         "order" => order(a.partial_cmp(&b)),
         _ => panic!("there is no call {call}"),

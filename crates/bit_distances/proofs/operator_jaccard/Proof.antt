@@ -1,48 +1,13 @@
--- `bit_distances::operator_jaccard` meets its contract: both counts are floats exactly, and the two steps are the definition's. Assumes nothing.
+-- `bit_distances::operator_jaccard` meets its contract: it is `jaccard`, where two vectors without ones are alike. Assumes nothing.
 use borrow.Author.Needs.{needs}
-use Rattle.refusal.proofs.Told.{distance-answer}
-use Rattle.bit_distances.proofs.Counts.{one-float, both-counted, both-float, not-both-counted}
 use Rattle.bit_distances.proofs.operator_jaccard.Statement.{statement}
 use Rattle.bit_distances.proofs.operator_jaccard.Tie as tie
 
-sum-of-and-or-requires : tie.Need-sum-of-and-or-requires
-sum-of-and-or-requires c κs = search needs
-
-enum-known-and : tie.Need-enum-known-and
-enum-known-and c = search needs
-
-int-to-float-common : tie.Need-int-to-float-common
-int-to-float-common c =
-    let t = c .before .before in
-    both-float _ _ _ _ (t .before .before .sum-of-and-or .ensures) (t .and .given .1) .0
-
-int-to-float-all : tie.Need-int-to-float-all
-int-to-float-all c =
-    let t = c .before .before .before in
-    both-float _ _ _ _ (t .before .before .sum-of-and-or .ensures) (t .and .given .1) .1
-
-enum-known-number : tie.Need-enum-known-number
-enum-known-number c = search needs
+jaccard-requires : tie.Need-jaccard-requires
+jaccard-requires c κs = search needs
 
 returns : tie.Need-returns
-returns c =
-    let t = c .before .before .before in
-    let k = both-counted _ _ _ _ (t .before .before .sum-of-and-or .ensures) (t .and .given .1) in
-    distance-answer _ (rw (k .0, k .1, k .2, ← one-float))
-
-returns-2 : tie.Need-returns-2
-returns-2 c =
-    let t = c .before in
-    distance-answer _ (rw (not-both-counted _ _ _ _ (t .before .before .sum-of-and-or .ensures) (t .number .given .1)))
+returns c = c .jaccard .ensures
 
 pub operator-jaccard-spec : {M : Type 1} → statement M
-operator-jaccard-spec =
-    tie.close
-    (tie.spec
-    sum-of-and-or-requires
-    enum-known-and
-    int-to-float-common
-    int-to-float-all
-    enum-known-number
-    returns
-    returns-2)
+operator-jaccard-spec = tie.close (tie.spec jaccard-requires returns)

@@ -4,12 +4,11 @@ use lib.Ieee.{Float, neg}
 use borrow.Author.Needs.{needs}
 use Rattle.refusal.specs.Answers.{distanceOf}
 use Rattle.refusal.specs.declared.Distance.the-variants.{Value}
-use Rattle.refusal.proofs.Told.{distance-answer}
+use Rattle.refusal.proofs.Told.{distance-answer, value-told, refusal-told}
 use Rattle.sparse.specs.Vectors.{Vector, vector}
 use Rattle.sparse.specs.Calls.{pairOf}
 use Rattle.sums.specs.Sums.{sumOf}
 use Rattle.sums.specs.declared.Kind.the-variants.{Product}
-use Rattle.folds.proofs.Answered.{value-told, refusal-told}
 use Rattle.folds.proofs.dot.Statement.{statement}
 use Rattle.folds.proofs.dot.Tie as tie
 

@@ -32,6 +32,7 @@ pub fn owed(request: &str, rust: &str) -> Owed {
     }
     match call {
         "bvect and" => real_and(&fields, rust),
+        "bvect jaccard" => alike(&fields, rust),
         _ => Owed::Same,
     }
 }
@@ -50,9 +51,20 @@ fn real_and(fields: &[&str], rust: &str) -> Owed {
     }
 }
 
+/// Departure 11. The Rust's Jaccard distance is NaN for two vectors without ones, and for no others. Owed is +0.0. The call
+/// that keeps the Rust's answer, `jaccard_or_nan`, has no rule of its own.
+fn alike(fields: &[&str], rust: &str) -> Owed {
+    let is_bare = |field| Bits::read(field).words.iter().all(|&word| word == 0);
+    match (is_bare(fields[0]) && is_bare(fields[1]), rust == "nan") {
+        (true, true) => Owed::Departure(11, text::float_shown(0.0)),
+        (false, false) => Owed::Same,
+        _ => Owed::Unexplained,
+    }
+}
+
 /// The distances, and the functions of bit.rs, which are handed words and no dims.
 fn compares_words_only(call: &str) -> bool {
-    let distances = ["svect dot", "svect l2", "bvect dot", "bvect hamming", "bvect jaccard"];
+    let distances = ["svect dot", "svect l2", "bvect dot", "bvect hamming", "bvect jaccard", "bvect jaccard_or_nan"];
     distances.contains(&call) || call.starts_with("bit ")
 }
 

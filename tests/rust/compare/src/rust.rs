@@ -127,7 +127,7 @@ fn bits_pair(name: &str, a: BVectBorrowed<'_>, b: BVectBorrowed<'_>) -> String {
         "xor" => bits_of(a.operator_xor(b)),
         "dot" => text::float_shown(a.operator_dot(b).to_f32()),
         "hamming" => text::float_shown(a.operator_hamming(b).to_f32()),
-        "jaccard" => text::float_shown(a.operator_jaccard(b).to_f32()),
+        "jaccard" | "jaccard_or_nan" => text::float_shown(a.operator_jaccard(b).to_f32()),
         "eq" => yes_or_no(a == b),
         "order" => order(a.partial_cmp(&b)),
         _ => "no such call".into(),

@@ -11,7 +11,7 @@ use random::Random;
 use std::ops::Bound;
 
 /// The calls of random cases, each as often as its share.
-const SHARES: [(&str, usize); 29] = [
+const SHARES: [(&str, usize); 30] = [
     ("svect check", 6),
     ("svect zero", 1),
     ("svect add", 9),
@@ -30,7 +30,8 @@ const SHARES: [(&str, usize); 29] = [
     ("bvect xor", 4),
     ("bvect dot", 4),
     ("bvect hamming", 4),
-    ("bvect jaccard", 5),
+    ("bvect jaccard", 3),
+    ("bvect jaccard_or_nan", 5),
     ("bvect eq", 4),
     ("bvect order", 5),
     ("bvect part", 8),

@@ -3,9 +3,9 @@ use super::bound_shown;
 use crate::text::{Bits, Sparse};
 use std::ops::Bound;
 
-const BIT_PAIRS: [&str; 12] = [
-    "bvect and", "bvect or", "bvect xor", "bvect dot", "bvect hamming", "bvect jaccard", "bvect eq", "bvect order",
-    "bit counts", "bit and", "bit or", "bit xor",
+const BIT_PAIRS: [&str; 13] = [
+    "bvect and", "bvect or", "bvect xor", "bvect dot", "bvect hamming", "bvect jaccard", "bvect jaccard_or_nan",
+    "bvect eq", "bvect order", "bit counts", "bit and", "bit or", "bit xor",
 ];
 
 const SPARSE_PAIRS: [&str; 5] = ["svect add", "svect sub", "svect mul", "svect eq", "svect order"];
