@@ -85,7 +85,11 @@ fn jaccard_of_short_vectors() {
                 assert!(by_default.to_bits() == 0 && or_nan.is_nan());
             } else {
                 let due = 1.0 - (a & b).count_ones() as f32 / (a | b).count_ones() as f32;
-                assert_eq!([by_default.to_bits(), or_nan.to_bits()], [due.to_bits(); 2], "{dims} bits, {a:b} and {b:b}");
+                assert_eq!(
+                    [by_default.to_bits(), or_nan.to_bits()],
+                    [due.to_bits(); 2],
+                    "{dims} bits, {a:b} and {b:b}"
+                );
             }
         }
     }
@@ -94,7 +98,7 @@ fn jaccard_of_short_vectors() {
 /// Vectors without ones, around the ends of words and at the limit; and what a single one changes.
 #[test]
 fn jaccard_without_ones() {
-    for dims in [1, 63, 64, 65, 127, 128, 129, 65_534, 65_535] {
+    for dims in [1_u32, 63, 64, 65, 127, 128, 129, 65_534, 65_535] {
         let words = vec![0; dims.div_ceil(64) as usize];
         let none = bits(dims, &words);
         assert_eq!(none.operator_jaccard(none).unwrap().to_bits(), 0);
