@@ -1,4 +1,4 @@
--- What the numbers of ones tell of Jaccard. Assumes nothing.
+-- What the numbers of ones tell of Jaccard, whether two vectors without ones are alike or not. Assumes nothing.
 use Prim.Native.Nat.{ℕ}
 use mathlib.Core.Bool.{Bool, true, false, cond, true≢false}
 use mathlib.Core.List.{List}

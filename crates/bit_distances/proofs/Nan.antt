@@ -1,4 +1,4 @@
--- The distance that may be NaN is one for two vectors without ones, and for no others. The default never is. Assumes nothing.
+-- Of the two calls of Jaccard one answers NaN for two vectors without ones and for no others, the other never. Assumes nothing.
 use Prim.Native.Nat.{ℕ, zero, suc, _≤_}
 use native.Mathlib.Omega.{arith}
 use mathlib.Core.Bool.{Bool, true, false, cond, _&&_, _||_}
@@ -39,25 +39,26 @@ by-numbers m (suc n) l h =
     (sub-number binary32 _ (holds-ofInt binary32 (pos 1) (omega arith))
     (div-number binary32 (holds-ofInt binary32 (pos m) (omega arith)) (holds-ofInt binary32 (pos (suc n)) (omega arith)) (omega arith)))
 
--- both bits at least as often as either
+-- what both have, either has
 both-fewer : (x y : Bool) → one (x && y) ≤ one (x || y)
 both-fewer true true = omega arith
 both-fewer true false = omega arith
 both-fewer false y = omega arith
 
+-- so of the numbers of ones
 by-ones : (d : ℕ) (a b : List ℕ) → d ≤ 65535 → isNan (jaccardOrNanOf d a b) ≡ eqb (countBelow (meets Or a b) d) 0
 by-ones d a b h =
     by-numbers _ _ (count-fewer (meets And a b) (meets Or a b) d (λ i. both-fewer (bitAt a i) (bitAt b i)))
     (omega (arith, count-most (meets Or a b) d))
 
 module _ (d : ℕ) (a : List ℕ) (e : ℕ) (b : List ℕ) {r : Distance} {x : Float} (told : r ≡ Value x) where
-  -- NaN exactly if neither vector has a one
+  -- what `operator_jaccard_or_nan` answers is NaN exactly if neither vector has a one
   pub nan-exactly : JaccardsOrNan d a e b r → isNan x ≡ eqb (countBelow (meets Or a b) d) 0
   nan-exactly s =
       let k = value-told (jaccardOrNanOf d a b) x (pairOf d a e b) (sym (s .answer) ∙ told) in
       rw (k .1) (by-ones d a b (pair-sound d a e b (k .0) .left .high))
 
-  -- and by default never
+  -- what `operator_jaccard` answers never is
   pub never-nan : Jaccards d a e b r → isNan x ≡ false
   unfolding isNan ofInt
   never-nan s =

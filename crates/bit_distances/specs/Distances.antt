@@ -22,11 +22,11 @@ dotOf d a b = neg (onesAsFloat And d a b)
 abbrev pub hammingOf : ℕ → List ℕ → List ℕ → Float
 hammingOf d a b = onesAsFloat Xor d a b
 
--- "Jaccard is 1.0 - (and / or), counts as f32, each step rounded once; two all-zero vectors give NaN." This is the Rust's rule, and
--- request #106 keeps it: "a second call keeps the old answer"
+-- "Jaccard is 1.0 - (and / or), counts as f32, each step rounded once; two all-zero vectors give NaN." This is the Rust's rule.
+-- Request #106: "a second call keeps the old answer"
 abbrev pub jaccardOrNanOf : ℕ → List ℕ → List ℕ → Float
 jaccardOrNanOf d a b = sub binary32 (ofInt binary32 (pos 1)) (div binary32 (onesAsFloat And d a b) (onesAsFloat Or d a b))
 
--- Request #106: "By default two all-zero bit vectors now give 0.0." These are the two whose OR has no ones. All other answers stay
+-- Request #106: "By default two all-zero bit vectors now give 0.0." Two are all-zero where their OR has no ones; all others give what they gave
 abbrev pub jaccardOf : ℕ → List ℕ → List ℕ → Float
 jaccardOf d a b = cond (eqb (countBelow (meets Or a b) d) 0) (ofInt binary32 (pos 0)) (jaccardOrNanOf d a b)

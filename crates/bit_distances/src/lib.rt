@@ -3,7 +3,7 @@
 use refusal::Distance;
 ghost use Rattle.bit_distances.specs.Calls.{Dots, Hammings, Jaccards, JaccardsOrNan, JaccardsIf};
 
-// The negated number of common ones. Refuses as `bit::check_pair` does, and so do the next two.
+// The negated number of common ones. Refuses as `bit::check_pair` does, and so do all others here.
 pub fn operator_dot(dims_a: u32, a: &[u64], dims_b: u32, b: &[u64]) -> Distance
     ensures { λ r. ⌜ Dots «dims_a» (now (a .entry)) «dims_b» (now (b .entry)) r ⌝ }
 {
@@ -23,7 +23,7 @@ pub fn operator_hamming(dims_a: u32, a: &[u64], dims_b: u32, b: &[u64]) -> Dista
     }
 }
 
-// 1.0 - (and / or), each step rounded once; but +0.0 for two vectors without ones if they are `alike`, and NaN if not.
+// 1.0 - (and / or), each step rounded once. Two vectors without ones give +0.0 if such are `alike`, and NaN if not.
 fn jaccard(alike: bool, dims_a: u32, a: &[u64], dims_b: u32, b: &[u64]) -> Distance
     ensures { λ r. ⌜ JaccardsIf alike «dims_a» (now (a .entry)) «dims_b» (now (b .entry)) r ⌝ }
 {
@@ -40,14 +40,14 @@ fn jaccard(alike: bool, dims_a: u32, a: &[u64], dims_b: u32, b: &[u64]) -> Dista
     }
 }
 
-// 1 less the share of common ones among the ones of either. Two vectors without ones are alike: +0.0. Never NaN.
+// Jaccard: 1 less the share of common ones among the ones of either. Two vectors without ones are alike: +0.0. Never NaN.
 pub fn operator_jaccard(dims_a: u32, a: &[u64], dims_b: u32, b: &[u64]) -> Distance
     ensures { λ r. ⌜ Jaccards «dims_a» (now (a .entry)) «dims_b» (now (b .entry)) r ⌝ }
 {
     jaccard(true, dims_a, a, dims_b, b)
 }
 
-// The same, but NaN for two vectors without ones, and only for them: the Rust's rule.
+// The same, but NaN for two vectors without ones, and for no others: the Rust's rule.
 pub fn operator_jaccard_or_nan(dims_a: u32, a: &[u64], dims_b: u32, b: &[u64]) -> Distance
     ensures { λ r. ⌜ JaccardsOrNan «dims_a» (now (a .entry)) «dims_b» (now (b .entry)) r ⌝ }
 {

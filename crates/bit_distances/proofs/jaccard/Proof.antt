@@ -1,4 +1,5 @@
--- `bit_distances::jaccard` meets its contract: both counts are floats exactly, and the two steps are the definition's. Assumes nothing.
+-- `bit_distances::jaccard` meets its contract: both counts are floats exactly, the two steps are the definition's,
+-- and two vectors without ones are answered before them only where such are alike. Assumes nothing.
 use mathlib.Core.Logic.{⊎-elim, inl, inr}
 use borrow.Author.Needs.{needs}
 use Rattle.refusal.proofs.Told.{distance-answer}

@@ -1,4 +1,4 @@
--- `bit_distances::operator_jaccard_or_nan` meets its contract: it is `jaccard`, where they are not. Assumes nothing.
+-- `bit_distances::operator_jaccard_or_nan` meets its contract: it is `jaccard`, where two vectors without ones are not alike. Assumes nothing.
 use borrow.Author.Needs.{needs}
 use Rattle.bit_distances.proofs.operator_jaccard_or_nan.Statement.{statement}
 use Rattle.bit_distances.proofs.operator_jaccard_or_nan.Tie as tie
