@@ -1,5 +1,5 @@
 -- Of the two calls of Jaccard one answers NaN for two vectors without ones and for no others, the other never. Assumes nothing.
-use Prim.Native.Nat.{ℕ, zero, suc, _≤_}
+use Prim.Native.Nat.{ℕ, zero, suc, _+_, _≤_}
 use native.Mathlib.Omega.{arith}
 use mathlib.Core.Bool.{Bool, true, false, cond, _&&_, _||_}
 use mathlib.Core.List.{List}
@@ -8,7 +8,7 @@ use lib.Dec.{eqb, eqb·suc-zero}
 use lib.IntN.{pos}
 use lib.Ieee.{Float, binary32, ofInt, sub, div, isNan}
 use Rattle.places.specs.Below.{one, countBelow}
-use Rattle.places.proofs.Below.{count-most, count-fewer}
+use Rattle.places.proofs.Below.{count-most, count-fewer, count-either}
 use Rattle.whole.proofs.Holds.{holds-ofInt}
 use Rattle.whole.proofs.Nan.{div-number, sub-number}
 use Rattle.refusal.specs.declared.Distance.{Distance}
@@ -39,11 +39,45 @@ by-numbers m (suc n) l h =
     (sub-number binary32 _ (holds-ofInt binary32 (pos 1) (omega arith))
     (div-number binary32 (holds-ofInt binary32 (pos m) (omega arith)) (holds-ofInt binary32 (pos (suc n)) (omega arith)) (omega arith)))
 
--- what both have, either has
+-- what both have, either has; what the left has, either has, and so for the right; what either has, the left has or the right
 both-fewer : (x y : Bool) → one (x && y) ≤ one (x || y)
 both-fewer true true = omega arith
 both-fewer true false = omega arith
 both-fewer false y = omega arith
+
+left-fewer : (x y : Bool) → one x ≤ one (x || y)
+left-fewer true y = omega arith
+left-fewer false y = omega arith
+
+right-fewer : (x y : Bool) → one y ≤ one (x || y)
+right-fewer true true = omega arith
+right-fewer true false = omega arith
+right-fewer false y = omega arith
+
+either-most : (x y : Bool) → one (x || y) ≤ one x + one y
+either-most true y = omega arith
+either-most false y = omega arith
+
+-- a number between two others and their sum is 0 exactly if both are
+both-zero : (n p q : ℕ) → p ≤ n → q ≤ n → n ≤ p + q → eqb n 0 ≡ (eqb p 0 && eqb q 0)
+both-zero zero zero zero l r s = refl
+both-zero zero (suc p) q l r s = absurd (omega arith)
+both-zero zero zero (suc q) l r s = absurd (omega arith)
+both-zero (suc n) zero zero l r s = absurd (omega arith)
+both-zero (suc n) zero (suc q) l r s = rw (eqb·suc-zero n, eqb·suc-zero q)
+both-zero (suc n) (suc p) q l r s = rw (eqb·suc-zero n, eqb·suc-zero p)
+
+-- the vector has no ones
+abbrev pub bare : ℕ → List ℕ → Bool
+bare d a = eqb (countBelow (bitAt a) d) 0
+
+-- so the OR of two vectors has no ones exactly if neither has
+pub or-bare : (d : ℕ) (a b : List ℕ) → eqb (countBelow (meets Or a b) d) 0 ≡ (bare d a && bare d b)
+or-bare d a b =
+    both-zero _ _ _
+    (count-fewer (bitAt a) (meets Or a b) d (λ i. left-fewer (bitAt a i) (bitAt b i)))
+    (count-fewer (bitAt b) (meets Or a b) d (λ i. right-fewer (bitAt a i) (bitAt b i)))
+    (count-either (meets Or a b) (bitAt a) (bitAt b) d (λ i. either-most (bitAt a i) (bitAt b i)))
 
 -- so of the numbers of ones
 by-ones : (d : ℕ) (a b : List ℕ) → d ≤ 65535 → isNan (jaccardOrNanOf d a b) ≡ eqb (countBelow (meets Or a b) d) 0
@@ -53,10 +87,10 @@ by-ones d a b h =
 
 module _ (d : ℕ) (a : List ℕ) (e : ℕ) (b : List ℕ) {r : Distance} {x : Float} (told : r ≡ Value x) where
   -- what `operator_jaccard_or_nan` answers is NaN exactly if neither vector has a one
-  pub nan-exactly : JaccardsOrNan d a e b r → isNan x ≡ eqb (countBelow (meets Or a b) d) 0
+  pub nan-exactly : JaccardsOrNan d a e b r → isNan x ≡ (bare d a && bare d b)
   nan-exactly s =
       let k = value-told (jaccardOrNanOf d a b) x (pairOf d a e b) (sym (s .answer) ∙ told) in
-      rw (k .1) (by-ones d a b (pair-sound d a e b (k .0) .left .high))
+      rw (k .1, ← or-bare d a b) (by-ones d a b (pair-sound d a e b (k .0) .left .high))
 
   -- what `operator_jaccard` answers never is
   pub never-nan : Jaccards d a e b r → isNan x ≡ false

@@ -87,6 +87,12 @@ unfolding countBelow
 count-fewer t u zero h = omega arith
 count-fewer t u (suc n) h = omega (arith, count-fewer t u n h, h n)
 
+-- and a test that passes only where one of two others does at most as often as both together
+pub count-either : (t u v : ℕ → Bool) (n : ℕ) → ((i : ℕ) → one (t i) ≤ one (u i) + one (v i)) → countBelow t n ≤ countBelow u n + countBelow v n
+unfolding countBelow
+count-either t u v zero h = omega arith
+count-either t u v (suc n) h = omega (arith, count-either t u v n h, h n)
+
 -- ---- some place
 
 pub any-false : (t : ℕ → Bool) (n i : ℕ) → anyBelow t n ≡ false → i < n → t i ≡ false
