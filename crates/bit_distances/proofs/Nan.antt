@@ -58,7 +58,7 @@ either-most : (x y : Bool) → one (x || y) ≤ one x + one y
 either-most true y = omega arith
 either-most false y = omega arith
 
--- a number between two others and their sum is 0 exactly if both are
+-- a number that is at least each of two others, and at most their sum, is 0 exactly if both are
 both-zero : (n p q : ℕ) → p ≤ n → q ≤ n → n ≤ p + q → eqb n 0 ≡ (eqb p 0 && eqb q 0)
 both-zero zero zero zero l r s = refl
 both-zero zero (suc p) q l r s = absurd (omega arith)
@@ -79,7 +79,7 @@ or-bare d a b =
     (count-fewer (bitAt b) (meets Or a b) d (λ i. right-fewer (bitAt a i) (bitAt b i)))
     (count-either (meets Or a b) (bitAt a) (bitAt b) d (λ i. either-most (bitAt a i) (bitAt b i)))
 
--- so of the numbers of ones
+-- Jaccard of two vectors is NaN exactly if their OR has no ones
 by-ones : (d : ℕ) (a b : List ℕ) → d ≤ 65535 → isNan (jaccardOrNanOf d a b) ≡ eqb (countBelow (meets Or a b) d) 0
 by-ones d a b h =
     by-numbers _ _ (count-fewer (meets And a b) (meets Or a b) d (λ i. both-fewer (bitAt a i) (bitAt b i)))
