@@ -22,7 +22,7 @@ compared-fair : (x y : Float) → IsOrder (compared x y)
 compared-fair x y = either (lt x y) _ _ refl (either (lt y x) _ _ refl (either (eq x y) _ _ refl refl))
 
 alone-fair : (x y : Float) → IsOrder (alone x y)
-alone-fair x y = either (lt x y) _ _ refl refl
+alone-fair x y = either (lt x y) _ _ refl (either (lt y x) _ _ refl refl)
 
 entries-fair : (i : ℕ) (x : Float) (j : ℕ) (y : Float) → IsOrder (entriesDecide i x j y)
 entries-fair i x j y = either (eqb i j) _ _ (compared-fair x y) (either (ltb i j) _ _ (alone-fair x zero32) (alone-fair zero32 y))

@@ -18,7 +18,7 @@ module _ (a b : Vector) where
   differ i = not (sameEntry a b i)
 
   module _ (same : sameEntries a b ≡ true) where
-    both : (size a ≡ size b) × (anyBelow differ (size a) ≡ false)
+    pub both : (size a ≡ size b) × (anyBelow differ (size a) ≡ false)
     both =
         let t = and-true (eqb (size a) (size b)) (not (anyBelow differ (size a))) same in
         (eqb-true (size a) (size b) (t .0), not-true (anyBelow differ (size a)) (t .1))

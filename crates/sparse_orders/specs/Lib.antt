@@ -1,4 +1,5 @@
--- The definitions that the contracts of equality and order cite.
+-- The definitions that the contracts of equality and order cite, and those that their laws cite.
 pub mod Orders
 pub mod Calls
 pub mod Loops
+pub mod Dense

@@ -32,12 +32,12 @@ sameEntries a b = eqb (size a) (size b) && not (anyBelow (λ i. not (sameEntry a
 abbrev pub compared : Float → Float → Ordering
 compared x y = cond (lt x y) Less (cond (lt y x) Greater (cond (eq x y) Equal Unordered))
 
--- "Left index smaller: Less if the left value is below zero, else Greater. Right index smaller: Less if the right value is above zero,
--- else Greater." The value stands against a zero on the other side; a NaN is Greater, on whichever side it is
+-- a value x of an index that the right side does not have, against the zero y there; or the other way round. Request #107: "if the entry
+-- that decides is a NaN there is no order." (Document 01 had Greater for what is not below; a vector that passed its tests has no zeros.)
 abbrev pub alone : Float → Float → Ordering
-alone x y = cond (lt x y) Less Greater
+alone x y = cond (lt x y) Less (cond (lt y x) Greater Unordered)
 
--- the entries x at i and y at j decide
+-- the entries x at i and y at j decide. "Left index smaller: .. the left value .. Right index smaller: .. the right value"
 abbrev pub entriesDecide : ℕ → Float → ℕ → Float → Ordering
 entriesDecide i x j y = cond (eqb i j) (compared x y) (cond (ltb i j) (alone x zero32) (alone zero32 y))
 

@@ -20,14 +20,17 @@ pub fn compare(x: f32, y: f32) -> Ordering
     Ordering::Unordered
 }
 
-// How a value compares with the zero of a place that the other side does not have.
+// How a value compares with the zero of a place that the other side does not have. A NaN has no order.
 fn compare_alone(x: f32, y: f32) -> Ordering
     ensures { λ r. ⌜ r ≡ alone x y ⌝ }
 {
     if x < y {
         return Ordering::Less;
     }
-    Ordering::Greater
+    if x > y {
+        return Ordering::Greater;
+    }
+    Ordering::Unordered // a NaN
 }
 
 // How two entries compare.

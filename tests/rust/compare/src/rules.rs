@@ -3,7 +3,7 @@
 //! arise: outputs have room, those of add and sub just as much as they ask for; sums are exact in every order; and counts
 //! are small.
 use crate::paper::{self, Field, Ways};
-use crate::text::{self, Bits};
+use crate::text::{self, Bits, Sparse};
 use base::scalar::bit;
 
 /// What our program owes.
@@ -33,6 +33,7 @@ pub fn owed(request: &str, rust: &str) -> Owed {
     match call {
         "bvect and" => real_and(&fields, rust),
         "bvect jaccard" => alike(&fields, rust),
+        "svect order" => nan_decides(&fields, rust),
         _ => Owed::Same,
     }
 }
@@ -59,6 +60,21 @@ fn alike(fields: &[&str], rust: &str) -> Owed {
         (true, true) => Owed::Departure(11, text::float_shown(0.0)),
         (false, false) => Owed::Same,
         _ => Owed::Unexplained,
+    }
+}
+
+/// Departure 12. The first entries that are not the same decide, and of these the one at the lower index. Where that is a
+/// NaN, and the other side's stands behind it, the Rust says greater, on whichever side the NaN is. Owed is that there is no
+/// order. Nothing else departs: not a NaN behind what decides, at equal indexes, or past the other side's end.
+fn nan_decides(fields: &[&str], rust: &str) -> Owed {
+    let (a, b) = (Sparse::read(fields[0]), Sparse::read(fields[1]));
+    let entries = |v: &Sparse| v.indexes.iter().copied().zip(v.values.clone()).collect::<Vec<_>>();
+    let first = entries(&a).into_iter().zip(entries(&b)).find(|(left, right)| left != right);
+    let is_lone_nan = |((i, x), (j, y)): ((u32, f32), (u32, f32))| (i < j && x.is_nan()) || (j < i && y.is_nan());
+    match (a.dims == b.dims && first.is_some_and(is_lone_nan), rust) {
+        (true, "greater") => Owed::Departure(12, "unordered".into()),
+        (true, _) => Owed::Unexplained,
+        (false, _) => Owed::Same,
     }
 }
 

@@ -4,7 +4,7 @@ use std::collections::BTreeMap;
 use std::fmt::Write;
 
 /// The departures that can show.
-const DEPARTURES: [usize; 8] = [1, 2, 3, 6, 7, 8, 10, 11];
+const DEPARTURES: [usize; 9] = [1, 2, 3, 6, 7, 8, 10, 11, 12];
 
 const ERRORS_SHOWN: usize = 20;
 
