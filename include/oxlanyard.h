@@ -199,9 +199,10 @@ uint32_t oxl_svect_eq(uint32_t dims_a, const uint32_t *ia, size_t ia_len, const 
                       uint32_t *yes, size_t *place);
 
 /*
- * *order: the first difference decides, absent values counting as zero; unordered if dims differ, or where a NaN meets
- * a value at its own index or the other side's end. A NaN before the other side's next index is greater, on either
- * side. Refuses: left, right.
+ * *order: that of the dense vectors, absent values counting as zero: the lowest index at which they differ decides.
+ * Unordered if dims differ, or where what decides is a NaN, on either side; a NaN behind it changes nothing. The other
+ * way round, less and greater are exchanged. Without NaN, vectors of equal dims are never unordered. Refuses: left, right.
+ * Before, a NaN that decided was greater on either side, if the other side had an entry behind it.
  */
 uint32_t oxl_svect_partial_cmp(uint32_t dims_a, const uint32_t *ia, size_t ia_len, const float *va, size_t va_len,
                                uint32_t dims_b, const uint32_t *ib, size_t ib_len, const float *vb, size_t vb_len,

@@ -97,11 +97,11 @@ static void sparse_room(void)
     EXPECT(dims == 3 && len == 2 && turns == 3 && oi[0] == 1 && ov[1] == 4.0f && oi[2] == 2 && ov[2] == 8.0f);
 }
 
-/* P6, P7, P10, and a NaN. */
+/* P6, P7, P10, and a NaN: at its own index, where it decides, and behind what decides. */
 static void sparse_slices_and_order(void)
 {
-    const uint32_t at[1] = {1};
-    const float below[1] = {-1.0f}, nan[1] = {of_bits(0x7fc00000)};
+    const uint32_t at[1] = {1}, early[1] = {3}, late[1] = {5};
+    const float below[1] = {-1.0f}, one[1] = {1.0f}, nan[1] = {of_bits(0x7fc00000)};
     uint32_t oi[2] = {E32, E32}, dims = E32, yes = E32, order = E32;
     float ov[2] = {OLD, OLD};
     size_t len = E32, place = E32;
@@ -115,6 +115,14 @@ static void sparse_slices_and_order(void)
     EXPECT(order == OXL_LESS);
     EXPECT(oxl_svect_partial_cmp(4, at, 1, nan, 1, 4, at, 1, nan, 1, &order, &place) == OXL_DONE);
     EXPECT(order == OXL_UNORDERED);
+    EXPECT(oxl_svect_partial_cmp(8, early, 1, nan, 1, 8, late, 1, one, 1, &order, &place) == OXL_DONE);
+    EXPECT(order == OXL_UNORDERED);
+    EXPECT(oxl_svect_partial_cmp(8, late, 1, one, 1, 8, early, 1, nan, 1, &order, &place) == OXL_DONE);
+    EXPECT(order == OXL_UNORDERED);
+    EXPECT(oxl_svect_partial_cmp(8, early, 1, one, 1, 8, late, 1, nan, 1, &order, &place) == OXL_DONE);
+    EXPECT(order == OXL_GREATER);
+    EXPECT(oxl_svect_partial_cmp(8, late, 1, nan, 1, 8, early, 1, one, 1, &order, &place) == OXL_DONE);
+    EXPECT(order == OXL_LESS);
     EXPECT(oxl_svect_partial_cmp(A, A, &order, &place) == OXL_DONE && order == OXL_EQUAL);
     EXPECT(oxl_svect_partial_cmp(A, 8, b_at, 2, b_is, 1, &order, &place) == OXL_LENGTH && order == 0);
     EXPECT(oxl_svect_eq(A, A, &yes, &place) == OXL_DONE && yes == 1);

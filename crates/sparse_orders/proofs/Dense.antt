@@ -8,9 +8,9 @@ use mathlib.Core.Logic.{_⊎_, ⊎-elim}
 use mathlib.Core.Path.{_≡_, refl, sym, ap, _∙_}
 use lib.Dec.{eqb}
 use lib.Ieee.{Float, ofBits, eq, lt, isNan}
-use borrow.Author.Tests.{lt-ltb, le-ltb, eq-eqb, ne-eqb, eqb-true, eqb-false, not-true, not-false}
+use borrow.Author.Tests.{lt-ltb, le-ltb, eq-eqb, ne-eqb, eqb-true, eqb-false, not-true}
 use Rattle.places.specs.Search.{firstFrom}
-use Rattle.places.proofs.Below.{le-or-lt, and-true}
+use Rattle.places.proofs.Below.{le-or-lt}
 use Rattle.places.proofs.First.{before, most, hit}
 use Rattle.refusal.specs.declared.Checked.the-variants.{Valid}
 use Rattle.refusal.specs.declared.Ordering.{Ordering}
@@ -28,7 +28,7 @@ use Rattle.sparse_orders.specs.Orders.{indexAt, valueAt, sameEntry, same
 use Rattle.sparse_orders.proofs.Apart.{dense-apart, dense-equal}
 use Rattle.sparse_orders.proofs.Floats.{eq-turned, nan-apart}
 use Rattle.sparse_orders.proofs.Mirror.{valid-answer}
-use Rattle.sparse_orders.proofs.Others.{SameFirst, all-same, none-other}
+use Rattle.sparse_orders.proofs.Others.{SameFirst, same-entry, all-same, none-other}
 
 -- ---- what stands at the place k, which the entries before p lie below
 
@@ -81,9 +81,7 @@ zero-same = refl
 
 module _ (a b : Vector) (sa : Sound a) (sb : Sound b) (p : ℕ) (same : SameFirst a b p) (pa : p ≤ size a) (pb : p ≤ size b) where
   entry : (q : ℕ) → q < p → (indexAt a q ≡ indexAt b q) × (eq (valueAt a q) (valueAt b q) ≡ true)
-  entry q h =
-      let t = and-true (eqb (indexAt a q) (indexAt b q)) (eq (valueAt a q) (valueAt b q)) (not-false (sameEntry a b q) (same q h)) in
-      (eqb-true (indexAt a q) (indexAt b q) (t .0), t .1)
+  entry q h = same-entry a b q (same q h)
 
   -- an entry before p is at the place j of both, or none is at that of either
   alike : (k : ℕ) → Split (a .indexes) p k → Split (b .indexes) p k → (j : ℕ) → j < k → eq (dense a j) (dense b j) ≡ true

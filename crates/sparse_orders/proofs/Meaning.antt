@@ -7,11 +7,12 @@ use lib.Dec.{eqb}
 use lib.ListN.{length, getD}
 use lib.Seq.{ext-getD}
 use lib.Ieee.{eq}
-use borrow.Author.Tests.{eq-eqb, eqb-true, not-true, not-false}
+use borrow.Author.Tests.{eq-eqb, eqb-true, not-true}
 use Rattle.places.specs.Below.{anyBelow}
 use Rattle.places.proofs.Below.{and-true, any-false, any-none}
 use Rattle.sparse.specs.Vectors.{Vector, size}
 use Rattle.sparse_orders.specs.Orders.{indexAt, valueAt, sameEntry, sameEntries}
+use Rattle.sparse_orders.proofs.Others.{same-entry}
 
 module _ (a b : Vector) where
   abbrev differ : ℕ → Bool
@@ -23,13 +24,11 @@ module _ (a b : Vector) where
         let t = and-true (eqb (size a) (size b)) (not (anyBelow differ (size a))) same in
         (eqb-true (size a) (size b) (t .0), not-true (anyBelow differ (size a)) (t .1))
 
-    each : (i : ℕ) → i < size a → (eqb (indexAt a i) (indexAt b i) ≡ true) × (eq (valueAt a i) (valueAt b i) ≡ true)
-    each i h =
-        and-true (eqb (indexAt a i) (indexAt b i)) (eq (valueAt a i) (valueAt b i))
-        (not-false (sameEntry a b i) (any-false differ (size a) i (both .1) h))
+    each : (i : ℕ) → i < size a → (indexAt a i ≡ indexAt b i) × (eq (valueAt a i) (valueAt b i) ≡ true)
+    each i h = same-entry a b i (any-false differ (size a) i (both .1) h)
 
     pub same-indexes : a .indexes ≡ b .indexes
-    same-indexes = ext-getD 0 (a .indexes) (b .indexes) (both .0) (λ i h. eqb-true (indexAt a i) (indexAt b i) (each i h .0))
+    same-indexes = ext-getD 0 (a .indexes) (b .indexes) (both .0) (λ i h. each i h .0)
 
     pub same-values : (i : ℕ) → i < size a → eq (valueAt a i) (valueAt b i) ≡ true
     same-values i h = each i h .1

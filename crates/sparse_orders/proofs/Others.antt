@@ -3,9 +3,11 @@ use Prim.Native.Nat.{ℕ, _+_, _≤_, _<_}
 use native.Mathlib.Omega.{arith}
 use mathlib.Core.Bool.{true, false, not}
 use mathlib.Core.Path.{_≡_, sym, _∙_}
-use lib.Ieee.{ne}
+use lib.Dec.{eqb}
+use lib.Ieee.{eq, ne}
 use borrow.Author.Count.{below-more}
-use borrow.Author.Tests.{eq-eqb, ne-eqb}
+use borrow.Author.Tests.{eq-eqb, ne-eqb, eqb-true, not-false}
+use Rattle.places.proofs.Below.{and-true}
 use Rattle.places.proofs.First.{found, none, some-first, none-first}
 use Rattle.sparse.specs.Vectors.{Vector, size}
 use Rattle.sparse.specs.Sound.{Sound}
@@ -23,6 +25,12 @@ module _ (a b : Vector) where
   values-tell : (i : ℕ) → indexAt a i ≡ indexAt b i → not (sameEntry a b i) ≡ ne (valueAt a i) (valueAt b i)
   unfolding ne
   values-tell i e = rw (eq-eqb (indexAt a i) (indexAt b i) e)
+
+  -- entries that are the same have equal indexes, and values that are equal
+  pub same-entry : (i : ℕ) → not (sameEntry a b i) ≡ false → (indexAt a i ≡ indexAt b i) × (eq (valueAt a i) (valueAt b i) ≡ true)
+  same-entry i h =
+      let t = and-true (eqb (indexAt a i) (indexAt b i)) (eq (valueAt a i) (valueAt b i)) (not-false (sameEntry a b i) h) in
+      (eqb-true (indexAt a i) (indexAt b i) (t .0), t .1)
 
   pub one-more : (i : ℕ) → SameFirst a b i → indexAt a i ≡ indexAt b i → ne (valueAt a i) (valueAt b i) ≡ false → SameFirst a b (i + 1)
   one-more i all e same = below-more _ i all (values-tell i e ∙ same)

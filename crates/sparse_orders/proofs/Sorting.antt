@@ -1,4 +1,5 @@
--- What sorting needs: Less or Equal is transitive and antisymmetric, and without NaN one of Less, Equal and Greater is answered. Assumes nothing.
+-- What sorting needs, of what `partial_cmp` answers: Less or Equal is antisymmetric and transitive, Equal is equality, and without NaN one of Less,
+-- Equal and Greater is answered. Assumes nothing.
 use Prim.Native.Nat.{ℕ, zero, suc, min, _≤_, _<_}
 use native.Mathlib.Nat.{eq-or-lt-of-le, le-min, min-le-left}
 use native.Mathlib.Omega.{arith}
@@ -44,6 +45,7 @@ known (NoOrder n m) h = h
 
 -- ---- antisymmetry
 
+-- vectors each of which is Less or Equal to the other are Equal
 pub antisymmetric : (a b : Vector) {r s : Ordering} → Compares a b r → Compares b a s → upTo r ≡ true → upTo s ≡ true → r ≡ Equal
 antisymmetric a b {r} {s} c d p q = go r p (mirrored a b c d (known r p))
   where
@@ -130,6 +132,7 @@ module _ (a b : Vector) {r : Ordering} (call : Compares a b r) (up : upTo r ≡ 
       let v = answer-is a b call (known r up) in
       up-to-climbs (a .dims) (dense a) (dense b) (sym (ap upTo (dense-answer a b call (v .0) (v .1) up-to-dims)) ∙ up)
 
+-- Less or Equal goes on from a to b to c; with NaN too, since where one decides the answer is neither
 pub transitive : (a b c : Vector) {r s t : Ordering} → Compares a b r → Compares b c s → Compares a c t → upTo r ≡ true → upTo s ≡ true → upTo t ≡ true
 transitive a b c {r} {s} ab bc ac p q =
     let va = answer-is a b ab (known r p) .0 in
@@ -195,6 +198,7 @@ compared-apart x y n m e = go (lt x y) refl
     go true h = inl (rw h)
     go false h = inr (rw (h, apart x y n m e h))
 
+-- valid vectors of equal dims without NaN are in order
 pub total : (a b : Vector) {r : Ordering} → Compares a b r → checkedOf a ≡ Valid → checkedOf b ≡ Valid → a .dims ≡ b .dims → NoNan a → NoNan b
     → (r ≡ Less) ⊎ (r ≡ Equal) ⊎ (r ≡ Greater)
 total a b {r} call va vb equal na nb =

@@ -68,7 +68,7 @@ fn compare_at(ia: &[u32], va: &[f32], ib: &[u32], vb: &[f32], i: usize) -> Order
 }
 
 // How two vectors compare: the first entries that are not alike decide; vectors of different dims are
-// Unordered. Refuses as `eq` does.
+// Unordered, and so are vectors of which a NaN decides. Refuses as `eq` does.
 pub fn partial_cmp(
     dims_a: u32,
     ia: &[u32],

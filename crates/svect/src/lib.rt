@@ -156,7 +156,7 @@ pub fn eq(dims_a: u32, ia: &[u32], va: &[f32], dims_b: u32, ib: &[u32], vb: &[f3
 }
 
 // How two vectors compare: the first entries that are not alike decide; vectors of different dims are
-// Unordered. Refuses as `eq` does.
+// Unordered, and so are vectors of which a NaN decides. Refuses as `eq` does.
 pub fn partial_cmp(
     dims_a: u32,
     ia: &[u32],

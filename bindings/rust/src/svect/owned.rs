@@ -78,11 +78,24 @@ impl PartialEq for SVectBorrowed<'_> {
     }
 }
 
-/// The first place that differs decides, absent values counting as zero. There is no order if dims differ, or where a
-/// NaN meets a value at its own index or the end of the other side's list.
+/// The order of the dense vectors: the lowest place at which they differ decides, absent values counting as zero. There is
+/// no order if dims differ, or where what decides is a NaN, on either side. A NaN behind it changes nothing.
 ///
-/// A NaN that stands before the other side's next index makes the answer `Greater`, on whichever side it is, as in the
-/// Rust original: then `a > b` and `b > a` both hold. Do not sort vectors that hold NaN by this.
+/// Turned round, the answer is mirrored. Vectors of equal dims without NaN are always in order, and can be sorted:
+///
+/// ```
+/// use oxlanyard::SVectOwned;
+///
+/// let row = |index, value| SVectOwned::new_checked(8, vec![index], vec![value]).unwrap();
+/// let mut rows = vec![row(5, 1.0), row(3, 2.0), row(3, -1.0)];
+/// rows.sort_by(|a, b| a.partial_cmp(b).expect("equal dims, no NaN"));
+/// assert_eq!(rows, [row(3, -1.0), row(5, 1.0), row(3, 2.0)]);
+///
+/// let nan = row(3, f32::NAN);
+/// assert_eq!((nan.partial_cmp(&rows[1]), rows[1].partial_cmp(&nan)), (None, None));
+/// ```
+///
+/// The Rust original answers `Greater` both ways round for that last pair, and so did this call before.
 impl PartialOrd for SVectBorrowed<'_> {
     #[inline]
     fn partial_cmp(&self, other: &Self) -> Option<Ordering> {

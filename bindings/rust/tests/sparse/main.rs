@@ -1,5 +1,6 @@
 //! Sparse vectors through the safe types. Figures are of document 01 and crates/test_sparse/stdout.
 
+mod order;
 mod room;
 
 use oxlanyard::{Reason, Refusal, SVectBorrowed, SVectOwned, ThreeSums};
@@ -192,8 +193,4 @@ fn equality_and_order() {
     assert_eq!(none.partial_cmp(&sparse(5, &[])), None);
     assert!(less == less.clone() && less != none && none != sparse(5, &[]));
     assert!(nan != nan.clone());
-    // A NaN before the other side's next index is greater, on either side.
-    let (early, late) = (sparse(8, &[(3, f32::NAN)]), sparse(8, &[(5, 1.0)]));
-    assert_eq!(early.partial_cmp(&late), Some(Ordering::Greater));
-    assert_eq!(late.partial_cmp(&early), Some(Ordering::Greater));
 }
