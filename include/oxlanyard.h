@@ -200,8 +200,8 @@ uint32_t oxl_svect_eq(uint32_t dims_a, const uint32_t *ia, size_t ia_len, const 
 
 /*
  * *order: that of the dense vectors, absent values counting as zero: the lowest index at which they differ decides.
- * Unordered if dims differ, or where what decides is a NaN, on either side; a NaN behind it changes nothing. The other
- * way round, less and greater are exchanged. Without NaN, vectors of equal dims are never unordered. Refuses: left, right.
+ * Unordered if dims differ, or where what decides is a NaN, on either side; a NaN behind it changes nothing. Turned
+ * round, less and greater are exchanged. Without NaN, vectors of equal dims are never unordered. Refuses: left, right.
  * Before, a NaN that decided was greater on either side, if the other side had an entry behind it.
  */
 uint32_t oxl_svect_partial_cmp(uint32_t dims_a, const uint32_t *ia, size_t ia_len, const float *va, size_t va_len,

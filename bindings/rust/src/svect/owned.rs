@@ -78,8 +78,8 @@ impl PartialEq for SVectBorrowed<'_> {
     }
 }
 
-/// The order of the dense vectors: the lowest place at which they differ decides, absent values counting as zero. There is
-/// no order if dims differ, or where what decides is a NaN, on either side. A NaN behind it changes nothing.
+/// The order of the dense vectors: the lowest place at which they differ decides, absent values counting as zero. There
+/// is no order if dims differ, or where what decides is a NaN, on either side. A NaN behind it changes nothing.
 ///
 /// Turned round, the answer is mirrored. Vectors of equal dims without NaN are always in order, and can be sorted:
 ///

@@ -35,8 +35,8 @@ fn dense(vector: &SVectOwned) -> Vec<f32> {
     places
 }
 
-/// Vectors of equal dims compare as their dense vectors do in Rust's lists of floats, the other way round mirrored, and are
-/// equal where the answer is so.
+/// Vectors of equal dims compare as their dense vectors do in Rust's lists of floats. Turned round the answer is
+/// mirrored, and they are equal where it says so.
 #[test]
 fn is_that_of_the_dense_vectors() {
     for (dims, values) in
@@ -54,8 +54,8 @@ fn is_that_of_the_dense_vectors() {
     }
 }
 
-/// A NaN that decides, on the left and on the right, with an entry of the other side at its index, behind it, or nowhere;
-/// and one behind what decides.
+/// A NaN that decides, on the left and on the right, with an entry of the other side at its index, behind it, or none; and
+/// one behind what decides.
 #[test]
 fn nan_decides_or_does_not_matter() {
     let (none, nan, one) = (sparse(8, &[]), sparse(8, &[(3, NAN)]), sparse(8, &[(5, 1.0)]));
@@ -86,8 +86,8 @@ impl Random {
     }
 }
 
-/// Vectors without NaN, each of them twice, in many orders: they sort to one sequence, and in it each stands behind all that
-/// are less and beside its twin.
+/// Vectors without NaN, each of them twice, in many orders: they sort to one sequence, in which each stands beside its
+/// twin and behind all that are less.
 #[test]
 fn without_nan_sorts_to_one_sequence() {
     let once = all(3, &[1.0, -1.0, SMALLEST, -SMALLEST, INF, -INF, f32::MAX]);

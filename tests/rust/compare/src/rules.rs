@@ -63,9 +63,9 @@ fn alike(fields: &[&str], rust: &str) -> Owed {
     }
 }
 
-/// Departure 12. The first entries that are not the same decide, and of these the one at the lower index. Where that is a
-/// NaN, and the other side's stands behind it, the Rust says greater, on whichever side the NaN is. Owed is that there is no
-/// order. Nothing else departs: not a NaN behind what decides, at equal indexes, or past the other side's end.
+/// Departure 12. The first entries that are not the same decide, and of these the one at the lower index. Where that is
+/// a NaN, and the other side's stands behind it, the Rust says greater, on whichever side the NaN is. Owed is that there
+/// is no order. Nothing else departs: not a NaN behind what decides, at equal indexes, or past the other side's end.
 fn nan_decides(fields: &[&str], rust: &str) -> Owed {
     let (a, b) = (Sparse::read(fields[0]), Sparse::read(fields[1]));
     let entries = |v: &Sparse| v.indexes.iter().copied().zip(v.values.clone()).collect::<Vec<_>>();
