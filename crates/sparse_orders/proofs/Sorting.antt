@@ -30,6 +30,7 @@ use Rattle.sparse_orders.specs.Dense.{answered, mirror, valueOr0, dense,
 use Rattle.sparse_orders.specs.Orders.{sameEntry, sameEntries, compared, orderBy}
 use Rattle.sparse_orders.proofs.Apart.{equal-before, apart-there, dense-there, dense-nowhere}
 use Rattle.sparse_orders.proofs.Dense.{order-equal, dense-answer}
+use Rattle.sparse_orders.proofs.Fair.{compares}
 use Rattle.sparse_orders.proofs.Floats.{UpTo, apart, eq-turned, up-to-trans, up-to-both}
 use Rattle.sparse_orders.proofs.Mirror.{valid-answer, answer-is, mirrored}
 use Rattle.sparse_orders.proofs.Meaning.{both}
@@ -141,6 +142,16 @@ transitive a b c {r} {s} ab bc ac p q =
     let right = rw (← left) at (climbs b c bc q) in
     ap upTo (dense-answer a c ac va vc (left ∙ up-to-dims b c bc q))
     ∙ climbs-up-to (a .dims) (dense a) (dense c) (climbs-trans (a .dims) (dense a) (dense b) (dense c) (climbs a b ab p) right)
+
+-- and that is Equal only if both are: where one of them is Less it is Less
+pub equal-only : (a b c : Vector) {r s t : Ordering} → Compares a b r → Compares b c s → Compares a c t → upTo r ≡ true → upTo s ≡ true → t ≡ Equal
+    → (r ≡ Equal) × (s ≡ Equal)
+equal-only a b c ab bc ac p q e =
+    let ca = compares c a refl in
+    let back = ap upTo (mirrored a c ac ca (ap answered e) ∙ ap mirror e) in
+    let ba = compares b a refl in
+    let cb = compares c b refl in
+    (antisymmetric a b ab ba p (transitive b c a bc ca ba q back), antisymmetric b c bc cb q (transitive c a b ca ab cb back p))
 
 -- ---- Equal is equality
 

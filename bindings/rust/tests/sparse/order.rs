@@ -1,12 +1,10 @@
 //! The order of sparse vectors, held to the dense vectors: mirrored when it is turned round, and fit for sorting.
 
-use super::sparse;
+use super::{sparse, INF};
 use oxlanyard::SVectOwned;
 use std::cmp::Ordering;
 
 const NAN: f32 = f32::NAN;
-
-const INF: f32 = f32::INFINITY;
 
 const SMALLEST: f32 = f32::from_bits(1);
 
