@@ -148,42 +148,34 @@ lighter (fin t m e) (fin s l d) (fin r k g) n p q =
 
 -- ---- the laws
 
-eq-numbers : (x y : Float) → eq x y ≡ true → (isNan x ≡ false) × (isNan y ≡ false)
-unfolding eq isNan
-eq-numbers nan y e = absurd (true≢false (sym e))
-eq-numbers (inf s) nan e = absurd (true≢false (sym e))
-eq-numbers (inf s) (inf t) e = (refl, refl)
-eq-numbers (inf s) (fin t n d) e = (refl, refl)
-eq-numbers (fin s m e) nan h = absurd (true≢false (sym h))
-eq-numbers (fin s m e) (inf t) h = (refl, refl)
-eq-numbers (fin s m e) (fin t n d) h = (refl, refl)
-
-lt-numbers : (x y : Float) → lt x y ≡ true → (isNan x ≡ false) × (isNan y ≡ false)
-unfolding lt isNan
-lt-numbers nan y e = absurd (true≢false (sym e))
-lt-numbers (inf s) nan e = absurd (true≢false (sym e))
-lt-numbers (inf s) (inf t) e = (refl, refl)
-lt-numbers (inf s) (fin t n d) e = (refl, refl)
-lt-numbers (fin s m e) nan h = absurd (true≢false (sym h))
-lt-numbers (fin s m e) (inf t) h = (refl, refl)
-lt-numbers (fin s m e) (fin t n d) h = (refl, refl)
-
 -- not above: less, or equal
 abbrev pub UpTo : Float → Float → Type 0
 UpTo x y = (lt x y ≡ true) ⊎ (eq x y ≡ true)
+
+neither : (false ≡ true) ⊎ (false ≡ true) → ⊥
+neither u = ⊎-elim (λ e. true≢false (sym e)) (λ e. true≢false (sym e)) u
+
+-- a NaN is neither, so both are numbers
+numbers : (x y : Float) → UpTo x y → (isNan x ≡ false) × (isNan y ≡ false)
+unfolding lt eq isNan
+numbers nan y u = absurd (neither u)
+numbers (inf s) nan u = absurd (neither u)
+numbers (inf s) (inf t) u = (refl, refl)
+numbers (inf s) (fin t n d) u = (refl, refl)
+numbers (fin s m e) nan u = absurd (neither u)
+numbers (fin s m e) (inf t) u = (refl, refl)
+numbers (fin s m e) (fin t n d) u = (refl, refl)
 
 module _ (x y : Float) where
   lt-lighter : lt x y ≡ true → weight x y < weight y x
   lt-lighter h = ltb-true (weight x y) (weight y x) (sym (lt-weights x y) ∙ h)
 
+  -- not both ways
   pub one-way : lt x y ≡ true → lt y x ≡ false
   one-way h = lt-weights y x ∙ le-ltb (weight y x) (weight x y) (omega (arith, lt-lighter h))
 
   eq-alike : eq x y ≡ true → weight x y ≡ weight y x
-  eq-alike h = let n = eq-numbers x y h in eqb-true (weight x y) (weight y x) (sym (eq-weights x y (n .0) (n .1)) ∙ h)
-
-  up-to-numbers : UpTo x y → (isNan x ≡ false) × (isNan y ≡ false)
-  up-to-numbers u = ⊎-elim (lt-numbers x y) (eq-numbers x y) u
+  eq-alike h = let n = numbers x y (inr h) in eqb-true (weight x y) (weight y x) (sym (eq-weights x y (n .0) (n .1)) ∙ h)
 
   up-to-lighter : UpTo x y → weight x y ≤ weight y x
   up-to-lighter u = ⊎-elim (λ h. omega (arith, lt-lighter h)) (λ h. omega (arith, eq-alike h)) u
@@ -207,24 +199,26 @@ module _ (x y : Float) where
         (eq-or-lt-of-le (ltb-false (weight x y) (weight y x) (sym (lt-weights x y) ∙ h))))
 
 eq-back : (x y : Float) → eq x y ≡ true → eq y x ≡ true
-eq-back x y h = let n = eq-numbers x y h in alike-eq y x (n .1) (n .0) (sym (eq-alike x y h))
+eq-back x y h = let n = numbers x y (inr h) in alike-eq y x (n .1) (n .0) (sym (eq-alike x y h))
 
+-- equal both ways round
 pub eq-turned : (x y : Float) → eq x y ≡ eq y x
 eq-turned x y = both-ways (eq x y) (eq y x) (eq-back x y) (eq-back y x)
 
+-- transitive, and equal where it holds both ways round
 pub up-to-trans : (x y z : Float) → UpTo x y → UpTo y z → UpTo x z
 up-to-trans x y z p q =
-    let n = up-to-numbers x y p in
-    lighter-up-to x z (n .0) (up-to-numbers y z q .1) (lighter y x z (n .1) (up-to-lighter x y p) (up-to-lighter y z q))
+    let n = numbers x y p in
+    lighter-up-to x z (n .0) (numbers y z q .1) (lighter y x z (n .1) (up-to-lighter x y p) (up-to-lighter y z q))
 
 pub up-to-both : (x y : Float) → UpTo x y → UpTo y x → eq x y ≡ true
 up-to-both x y p q =
-    let n = up-to-numbers x y p in
+    let n = numbers x y p in
     alike-eq x y (n .0) (n .1) (omega (arith, up-to-lighter x y p, up-to-lighter y x q))
 
 -- and a NaN is in no order with anything
 pub nan-apart : (x y : Float) → (isNan x ≡ true) ⊎ (isNan y ≡ true) → (lt x y ≡ false) × (lt y x ≡ false) × (eq x y ≡ false)
-nan-apart x y some = (not-so (lt x y) (lt-numbers x y), not-so (lt y x) (λ h. let n = lt-numbers y x h in (n .1, n .0)), not-so (eq x y) (eq-numbers x y))
+nan-apart x y some = (not-so (lt x y) (λ h. numbers x y (inl h)), not-so (lt y x) (λ h. let n = numbers y x (inl h) in (n .1, n .0)), not-so (eq x y) (λ h. numbers x y (inr h)))
   where
     not-so : (t : Bool) → (t ≡ true → (isNan x ≡ false) × (isNan y ≡ false)) → t ≡ false
     not-so true n = absurd (⊎-elim (λ h. true≢false (sym h ∙ n refl .0)) (λ h. true≢false (sym h ∙ n refl .1)) some)

@@ -24,7 +24,7 @@ answered Greater = true
 answered Unordered = true
 answered (Refused n p) = false
 
--- Less and Greater exchanged
+-- "mirrors every answer": Less and Greater exchanged, the others kept
 abbrev pub mirror : Ordering → Ordering
 mirror Less = Greater
 mirror Equal = Equal
@@ -42,17 +42,18 @@ valueOr0 (Full x) = x
 abbrev pub dense : Vector → ℕ → Float
 dense v k = valueOr0 (at v k)
 
--- the lowest of d places at which two dense vectors differ, and d where they differ at none
+-- "first differing index": the lowest of d places at which two dense vectors differ, and d where they differ at none
 abbrev pub firstApart : ℕ → (ℕ → Float) → (ℕ → Float) → ℕ
 firstApart d f g = firstFrom (λ k. not (eq (f k) (g k))) d 0
 
--- Equal if every place has equal values, else the comparison of the two values at the lowest place at which they differ
+-- "first differing index deciding": Equal if every place has equal values, else the comparison of the two values at the lowest place at
+-- which they differ
 abbrev pub denseOrder : ℕ → (ℕ → Float) → (ℕ → Float) → Ordering
 denseOrder d f g = let k = firstApart d f g in cond (ltb k d) (compared (f k) (g k)) Equal
 
 -- ---- what sorting needs
 
--- no value is a NaN
+-- "without NaN": no value is one
 abbrev pub NoNan : Vector → Type 0
 NoNan v = (i : ℕ) → i < size v → isNan (valueAt v i) ≡ false
 
