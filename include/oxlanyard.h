@@ -42,7 +42,7 @@ enum {
     OXL_BOUNDS = 8,     /* bad bounds: empty, beyond dims, or of no kind below */
     OXL_ROOM = 9,       /* a list is too short [entries, words or capacity needed; the length of the region] */
     OXL_NEED = 10,      /* the state must grow [the capacity wanted] */
-    OXL_COUNT = 11,     /* more than 16,777,216 rows */
+    OXL_COUNT = 11,     /* more than 18,446,744,073,709,551,615 rows */
     OXL_NOT_BEGUN = 12, /* the state has no rows */
     OXL_STATE = 13,     /* header and entries of a state do not fit together */
     OXL_NOT_NEEDED = 14 /* a move that is not needed: the state has the room */
@@ -254,7 +254,10 @@ uint32_t oxl_aggregate_sum(const uint64_t *h, const uint32_t *ai, size_t ai_len,
                            uint32_t *oi, size_t oi_len, float *ov, size_t ov_len, uint32_t *dims, size_t *len,
                            size_t *place);
 
-/* Writes the sum, each value divided once by the count, without zeros; the rest is as for sum. */
+/*
+ * Writes the sum, each value divided once by the float nearest to the count, ties to even, without zeros; the rest is as
+ * for sum.
+ */
 uint32_t oxl_aggregate_average(const uint64_t *h, const uint32_t *ai, size_t ai_len, const float *av, size_t av_len,
                                uint32_t *oi, size_t oi_len, float *ov, size_t ov_len, uint32_t *dims, size_t *len,
                                size_t *place);

@@ -78,7 +78,7 @@ static void rows(void)
     EXPECT(row(&s, 8, NULL, NULL, 0, &turns, &place) == OXL_DONE && turns == 0 && header_is(&s, 1, 8, 2, 8, 3));
 }
 
-/* Headers that no state has; the numbers of the last three do not fit a header at all. */
+/* Headers that no state has; the numbers of the last two do not fit a header at all. */
 static void bad_headers(void)
 {
     struct lists s = fresh(), t = s, before;
@@ -99,10 +99,38 @@ static void bad_headers(void)
     t = s;
     t.h[OXL_HEADER_DIMS] += (uint64_t)1 << 32;
     EXPECT(check(&t, &place) == OXL_STATE && place == 0);
-    t = s;
-    t.h[OXL_HEADER_COUNT] += (uint64_t)1 << 32;
     before = t;
     EXPECT(row(&t, 8, b_at, b_is, 2, &turns, &place) == OXL_STATE && memcmp(&t, &before, sizeof t) == 0);
+    t = s;
+    t.h[OXL_HEADER_COUNT] = 0;
+    EXPECT(check(&t, &place) == OXL_STATE && place == 0);
+}
+
+/* Any count but 0 is one; what would pass the last is refused, and changes nothing. */
+static void counts(void)
+{
+    struct lists s = fresh(), t, before;
+    uint32_t oi[2], dims = E32;
+    float ov[2];
+    size_t len = E32, turns = E32, place = E32;
+    EXPECT(row(&s, 8, a_at, a_is, 2, &turns, &place) == OXL_DONE);
+    t = s;
+    s.h[OXL_HEADER_COUNT] = UINT64_MAX - 5;
+    EXPECT(check(&s, &place) == OXL_DONE);
+    t.h[OXL_HEADER_COUNT] = 5;
+    EXPECT(combine(&s, &t, &turns, &place) == OXL_DONE && header_is(&s, 1, 8, 2, 8, UINT64_MAX));
+    before = s;
+    turns = place = E32;
+    EXPECT(combine(&s, &t, &turns, &place) == OXL_COUNT && turns == 0 && place == 0);
+    turns = place = E32;
+    EXPECT(row(&s, 8, b_at, b_is, 2, &turns, &place) == OXL_COUNT && turns == 0 && place == 0);
+    EXPECT(memcmp(&s, &before, sizeof s) == 0);
+    /* The nearest floats: at the end 2^64; at 33,554,438, a tie, 33,554,440, which is even. */
+    EXPECT(oxl_aggregate_average(s.h, s.at, 20, s.is, 20, oi, 2, ov, 2, &dims, &len, &place) == OXL_DONE);
+    EXPECT(len == 2 && ov[0] == 2.0f / 18446744073709551616.0f && ov[1] == -4.0f / 18446744073709551616.0f);
+    s.h[OXL_HEADER_COUNT] = 33554438;
+    EXPECT(oxl_aggregate_average(s.h, s.at, 20, s.is, 20, oi, 2, ov, 2, &dims, &len, &place) == OXL_DONE);
+    EXPECT(len == 2 && ov[0] == 2.0f / 33554440.0f && ov[1] == -4.0f / 33554440.0f);
 }
 
 static void combines(void)
@@ -114,8 +142,6 @@ static void combines(void)
     EXPECT(combine(&s, &t, &turns, &place) == OXL_DONE && turns == 2 && header_is(&s, 1, 8, 2, 8, 1));
     EXPECT(combine(&s, &t, &turns, &place) == OXL_DONE && turns == 2 && header_is(&s, 1, 8, 2, 8, 2));
     EXPECT(s.at[2] == 4 && s.is[2] == 4.0f && s.at[3] == 6 && s.is[3] == 1.0f);
-    s.h[OXL_HEADER_COUNT] = 16777216;
-    EXPECT(combine(&s, &t, &turns, &place) == OXL_COUNT && place == 0 && turns == 0);
 }
 
 /* P12: a state of ten entries and capacity 16, and a row of seven; then the move that NEED asks for. */
@@ -172,6 +198,7 @@ void states(void)
     rows();
     bad_headers();
     combines();
+    counts();
     moves();
     finishes();
 }

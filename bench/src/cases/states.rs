@@ -1,10 +1,10 @@
-//! States of an aggregate: a row, a combine.
+//! States of an aggregate: a row, a combine, an average.
 use super::sparse::{in_turn, ours, rust, same, Ours};
 use super::{grouped, Bench};
-use crate::data::{Maker, Pair, Sparse};
-use crate::targets::of_rust;
-use crate::timing::{Side, OURS, RUST};
-use oxlanyard::Aggregate;
+use crate::data::{Maker, Pair, Sparse, DIMS};
+use crate::targets::{of_rust, of_twin};
+use crate::timing::{Side, OURS, RUST, TWIN};
+use oxlanyard::{capacity, Aggregate, Header, State};
 use pgrx::datum::{reset, Internal};
 use std::hint::black_box;
 use vectors::datatype::aggregate_svecf32::{probe, SVecf32AggregateAvgSumStype as Theirs};
@@ -26,7 +26,7 @@ fn same_states(ours: &Aggregate, rust: Internal) {
     let (sum, its) = (ours.sum().expect("a state"), probe::sum(rust).expect("a state"));
     same((sum.indexes(), sum.values()), (its.indexes(), its.values()));
     let its = unsafe { rust.get_mut::<Theirs>() }.expect("a state");
-    assert_eq!((ours.capacity(), ours.count() as u64), (its.capacity() as usize, its.count()));
+    assert_eq!((ours.capacity(), ours.count()), (its.capacity() as usize, its.count()));
 }
 
 /// Rows of n whole numbers, each followed by its negation: after two calls the state is as it was. Long rows are fewer.
@@ -107,6 +107,43 @@ fn combine_and_grow(pair: &Pair) -> Vec<Side<'static>> {
     ]
 }
 
+/// The average of a state of ours that holds a vector, with any count.
+fn average_of(name: &'static str, held: &Sparse, count: u64) -> Side<'static> {
+    let (n, room) = (held.indexes.len(), capacity(DIMS, held.indexes.len()));
+    let (mut indexes, mut values) = (vec![0; room], vec![0.0; room]);
+    State::new(&mut indexes, &mut values).row(ours(held)).expect(VALID);
+    let header = Header([0, room as u64, 1, DIMS as u64, n as u64, room as u64, count]);
+    // The state's lists last as long as the program.
+    let state = State::resume(header, indexes.leak(), values.leak()).expect("a state");
+    let (mut oi, mut ov) = (vec![0; n], vec![0.0; n]);
+    let answer = state.average_into(&mut oi, &mut ov).expect("a state");
+    let its = probe::average(probe::state(count, rust(held))).expect("a state");
+    same((answer.indexes(), answer.values()), (its.indexes(), its.values()));
+    Side::new(name, move || {
+        black_box(black_box(&state).average_into(&mut oi, &mut ov).expect("a state"));
+    })
+}
+
+/// An average by one count, and by another as its twin. The Rust's divides its state; that it is made anew after each
+/// call is not timed.
+fn average(held: &Sparse, count: u64, twin: u64) -> Vec<Side<'_>> {
+    let (ours, twin) = (average_of(OURS, held, count), average_of(TWIN, held, twin));
+    let anew = move || probe::state(count, rust(held));
+    let its = Side::undone(
+        RUST,
+        anew(),
+        |its| {
+            black_box(probe::average(black_box(*its)).expect("a state"));
+        },
+        move |its| {
+            // SAFETY: what was made since is used by no one.
+            unsafe { reset() };
+            *its = anew();
+        },
+    );
+    vec![ours, its, twin]
+}
+
 pub fn run(bench: &mut Bench) {
     let mut maker = Maker::new(9);
     let first = maker.whole_vector(100_000);
@@ -114,6 +151,10 @@ pub fn run(bench: &mut Bench) {
         let rows = rows(&mut maker, &first, n);
         let name = format!("row of {} into a state of 100,000", grouped(n as u64));
         bench.case(&name, of_rust(at_most), || row(&first, &rows));
+    }
+    for (count, twin) in [(1, u64::MAX), (u64::MAX, 1)] {
+        let name = format!("average of 100,000, count {}", grouped(count));
+        bench.case(&name, of_twin(1.02), || average(&first, count, twin));
     }
     let pair = maker.whole_pair(100_000, 10);
     bench.case("combine, two states of 100,000", of_rust(0.55), || combine(&pair));

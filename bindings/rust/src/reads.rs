@@ -14,7 +14,7 @@ macro_rules! reads {
 
             /// How many rows came in.
             #[inline]
-            pub fn count(&self) -> u32 {
+            pub fn count(&self) -> u64 {
                 StateBorrowed::from(self).count()
             }
 
@@ -48,8 +48,8 @@ macro_rules! reads {
                 StateBorrowed::from(self).sum()
             }
 
-            /// The sum of the rows, each value divided once by the count; quotients that are zero are left out. Refuses
-            /// with NOT_BEGUN.
+            /// The sum of the rows, each value divided once by the count, `count as f32`; quotients that are zero are
+            /// left out. Refuses with NOT_BEGUN.
             #[inline]
             pub fn average(&self) -> Result<SVectOwned, Refusal> {
                 StateBorrowed::from(self).average()

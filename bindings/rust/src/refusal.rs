@@ -50,7 +50,7 @@ pub enum Reason {
     Room = 9,
     /// 10: a state must grow. The place is the capacity that it wants.
     Need = 10,
-    /// 11: the count of rows would pass 16,777,216.
+    /// 11: the count of rows would pass the largest `u64`.
     Count = 11,
     /// 12: the state has no rows, so it has no sum, no average, and nothing to move.
     NotBegun = 12,
@@ -139,7 +139,7 @@ impl fmt::Display for Refusal {
             Reason::Bounds => write!(f, "the bounds of the slice are empty or reach beyond dims"),
             Reason::Room => write!(f, "a lent list is too short for {place} places"),
             Reason::Need => write!(f, "the state must grow: it wants the capacity {place}"),
-            Reason::Count => write!(f, "the count of rows would pass 16777216"),
+            Reason::Count => write!(f, "the count of rows would pass {}", u64::MAX),
             Reason::NotBegun => write!(f, "the state has no rows"),
             Reason::State => write!(f, "the header does not fit what stands in the lists of the state"),
             Reason::NotNeeded => write!(f, "the state need not move: it has room for as many entries"),

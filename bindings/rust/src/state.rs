@@ -82,8 +82,8 @@ impl<'a> StateBorrowed<'a> {
 
     /// How many rows came in.
     #[inline]
-    pub fn count(&self) -> u32 {
-        self.header[6] as u32
+    pub fn count(&self) -> u64 {
+        self.header[6]
     }
 
     /// The dims of the rows; none before the first.
@@ -116,8 +116,8 @@ impl<'a> StateBorrowed<'a> {
         owned(self.len(), |out| calls::finish(Finish::Sum, self.read(), out))
     }
 
-    /// The sum of the rows, each value divided once by the count; quotients that are zero are left out. Refuses with
-    /// NOT_BEGUN.
+    /// The sum of the rows, each value divided once by the count, `count as f32`; quotients that are zero are left out.
+    /// Refuses with NOT_BEGUN.
     #[inline]
     pub fn average(&self) -> Result<SVectOwned, Refusal> {
         owned(self.len(), |out| calls::finish(Finish::Average, self.read(), out))

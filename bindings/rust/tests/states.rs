@@ -123,7 +123,10 @@ fn states_are_resumed() {
     for header in wrong {
         assert_eq!(refused(State::resume(header, &mut i, &mut v)), (Reason::State, 0), "{header:?}");
     }
-    assert_eq!(refused(State::resume(with(6, 1 + (1 << 32)), &mut i, &mut v)), (Reason::State, 0));
+    // Any count but 0 is one.
+    for count in [1, 1 << 24, 1 + (1 << 32), u64::MAX] {
+        assert_eq!(State::resume(with(6, count), &mut i, &mut v).unwrap().count(), count);
+    }
     let (none, wrong) = (Header([2, 8, 0, 0, 0, 0, 0]), Header([2, 8, 2, 0, 0, 0, 0]));
     assert_eq!(State::resume(none, &mut i, &mut v).unwrap().dims(), None);
     assert_eq!(refused(State::resume(wrong, &mut i, &mut v)), (Reason::State, 0));
@@ -180,16 +183,70 @@ fn combining() {
     assert_eq!((wide.count(), wide.capacity()), (2, 32));
 }
 
-/// The count stops at 16,777,216.
+/// Counts go past 16,777,216, up to the end of `u64`. What would pass that is refused, and changes nothing.
 #[test]
-fn counts_are_bounded() {
+fn counts_go_to_the_end_of_u64() {
     let mut doubled = Aggregate::new();
     doubled.row(SVectBorrowed::zero(8).unwrap()).unwrap();
-    for _ in 0..24 {
+    for _ in 0..63 {
+        let before = doubled.clone();
+        doubled.row(a()).unwrap();
+        assert_eq!(doubled.count(), before.count() + 1);
+        doubled = before;
         doubled.combine(&doubled.clone()).unwrap();
     }
-    assert_eq!(doubled.count(), 16_777_216);
-    assert_eq!(refused(doubled.row(a())), (Reason::Count, 0));
+    assert_eq!(doubled.count(), 1 << 63);
     assert_eq!(refused(doubled.combine(&doubled.clone())), (Reason::Count, 0));
-    assert_eq!((doubled.count(), doubled.len()), (16_777_216, 0));
+    assert_eq!((doubled.count(), doubled.len()), (1 << 63, 0));
+
+    let (mut i, mut v) = ([7; 10], [7.5; 10]);
+    State::new(&mut i, &mut v).row(a()).unwrap();
+    let header = |count| Header([0, 10, 1, 8, 2, 8, count]);
+    let (mut other_i, mut other_v) = (i, v);
+    let mut state = State::resume(header(u64::MAX - 5), &mut i, &mut v).unwrap();
+    let five = State::resume(header(5), &mut other_i, &mut other_v).unwrap();
+    assert_eq!(state.combine(&five), Ok(2));
+    assert_eq!((state.count(), state.sum().unwrap().values()), (u64::MAX, &[2.0, -4.0][..]));
+    let message = state.row(b()).unwrap_err().to_string();
+    assert_eq!(message, "the count of rows would pass 18446744073709551615 (COUNT, 11)");
+    assert_eq!(refused(state.row(SVectBorrowed::zero(8).unwrap())), (Reason::Count, 0));
+    assert_eq!(refused(state.combine(&five)), (Reason::Count, 0));
+    assert_eq!(state.header(), header(u64::MAX));
+    // The float nearest to the count is 2^64.
+    let divisor = 18_446_744_073_709_551_616.0;
+    assert_eq!(state.average().unwrap().values(), [2.0 / divisor, -4.0 / divisor]);
+    assert_eq!((i[0], i[1], i[8], v[0], v[1], v[8]), (1, 4, 7, 2.0, -4.0, 7.5));
+}
+
+/// The average divides by the count rounded to the nearest `f32`, ties to even, as Rust's `as f32` is.
+#[test]
+fn averages_divide_by_the_nearest_float() {
+    let (mut i, mut v) = ([7; 8], [7.5; 8]);
+    let row = SVectBorrowed::new_checked(8, &[1, 4], &[33_554_436.0, 1.0]).unwrap();
+    State::new(&mut i, &mut v).row(row).unwrap();
+    let mut check = |count: u64, divisor: f32| {
+        assert_eq!(count as f32, divisor);
+        let state = State::resume(Header([0, 8, 1, 8, 2, 8, count]), &mut i, &mut v).unwrap();
+        assert_eq!(state.average().unwrap().values(), [33_554_436.0 / divisor, 1.0 / divisor], "{count}");
+    };
+    let known = [
+        (16_777_215, 16_777_215.0),
+        (16_777_216, 16_777_216.0),
+        (16_777_217, 16_777_216.0),
+        (16_777_218, 16_777_218.0),
+        (16_777_219, 16_777_220.0),
+        (33_554_434, 33_554_432.0),
+        (33_554_438, 33_554_440.0),
+        (u64::MAX, 18_446_744_073_709_551_616.0),
+    ];
+    known.into_iter().for_each(|(count, divisor)| check(count, divisor));
+    // Every power of two, every tie beside it, and the numbers around both.
+    for power in 1..64 {
+        for tie in 1..=power.min(41) {
+            let count = (1u64 << power) + (1 << (power - tie));
+            for near in [count - 1, count, count + 1] {
+                check(near, near as f32);
+            }
+        }
+    }
 }

@@ -21,7 +21,7 @@ use Rattle.aggregate_svecf32.proofs.Acting.{acts-copied}
 pub begin-short : (h : Header) (v : Vector) → let c = capacityFor (v .dims) (size v) in h .length < c → beginOf h v ≡ Refused 9 c
 begin-short h v l = rw (lt-ltb (h .length) (capacityFor (v .dims) (size v)) l)
 
-module _ (h : Header) (p : Pair) (v : Vector) (count : ℕ) (g : Given h p v count) (room : capacityFor (v .dims) (size v) ≤ h .length) where
+module _ (h : Header) (p : Pair) (v : Vector) (count : ℕ) (g : Given h p v) (room : capacityFor (v .dims) (size v) ≤ h .length) where
   -- the region has room for the entries
   pub begin-fits : Fitting 0 (size v) (pair (v .indexes) (v .values)) (h .start) p
   begin-fits =

@@ -53,11 +53,11 @@ module _ (h : Header) (p : Pair) (oi : List ℕ) (ov : List Float) (due : finish
       let e = ends-inside (known .sure) in
       record { indexes = e .0; values = e .1; room = omega (arith, known .room); room′ = omega (arith, known .room′) }
 
-  pub average-fits : Divides (cut h p) (h .count) oi ov
+  pub average-fits : Divides (cut h p) oi ov
   average-fits =
       let s = known .sure in
       rw (held-cut h p)
-      (record { sound = s .fair .sound; most = s .fair .most; room = rw (s .many) (known .room); room′ = rw (s .many) (known .room′) })
+      (record { sound = s .fair .sound; room = rw (s .many) (known .room); room′ = rw (s .many) (known .room′) })
 
   module _ {oi′ : List ℕ} {ov′ : List Float} where
     pub sum-done : Copied (h .start) (h .len) p 0 (pair oi ov) (pair oi′ ov′) → Sums h p oi ov (Done (h .dims) (h .len)) oi′ ov′

@@ -1,5 +1,5 @@
 -- A state that has begun merges a vector: what it refuses, that there is room for the merge, and what is left. Assumes nothing.
-use Prim.Native.Nat.{ℕ, _+_, _-_, _≤_, _<_}
+use Prim.Native.Nat.{ℕ, _+_, _-_, _≤_}
 use native.Mathlib.Omega.{arith}
 use mathlib.Core.Bool.{Bool, true, false, not, _&&_, _||_}
 use mathlib.Core.List.{List}
@@ -9,7 +9,7 @@ use lib.Dec.{eqb, leb, ltb}
 use lib.ListN.{length, take}
 use lib.Seq.{take-take}
 use lib.Ieee.{Float}
-use borrow.Author.Tests.{eq-eqb, ne-eqb, lt-ltb, le-ltb, le-leb, lt-leb, eqb-true, leb-true, ltb-false, not-false}
+use borrow.Author.Tests.{eq-eqb, ne-eqb, lt-ltb, le-ltb, le-leb, lt-leb, eqb-true, leb-true, not-false}
 use Rattle.places.proofs.Below.{le-or-lt}
 use Rattle.refusal.specs.Numbers.{DIFFER, NEED, COUNT}
 use Rattle.refusal.specs.Answers.{refuse}
@@ -24,6 +24,7 @@ use Rattle.merges.proofs.Made.{joinAt}
 use Rattle.regions.specs.Capacity.{capacityFor}
 use Rattle.regions.specs.Regions.{Pair, pair, part}
 use Rattle.regions.proofs.Stands.{lent, part-length, stands-lent}
+use Rattle.headers.specs.Headers.{tooMany}
 use Rattle.in_place.specs.Loops.{Roomy, Grown}
 use Rattle.in_place.specs.Turns.{rowTurns}
 use Rattle.aggregate_svecf32.specs.States.{header, held}
@@ -60,27 +61,27 @@ module _ (h : Header) (v : Vector) (more : ℕ) where
   merge-differ other = rw (ne-eqb (h .dims) (v .dims) other)
 
   module _ (same : h .dims ≡ v .dims) where
-    pub merge-count : 16777216 < h .count + more → mergeOf h v more ≡ Refused 11 0
-    merge-count l = rw (eq-eqb (h .dims) (v .dims) same, lt-ltb 16777216 (h .count + more) l)
+    pub merge-count : tooMany (h .count) more ≡ true → mergeOf h v more ≡ Refused 11 0
+    merge-count many = rw (eq-eqb (h .dims) (v .dims) same, many)
 
-    module _ (few : h .count + more ≤ 16777216) where
+    module _ (few : tooMany (h .count) more ≡ false) where
       pub merge-need : spare h (size v) ≡ false → mergeOf h v more ≡ Refused 10 (capacityFor (h .dims) (h .len + size v))
-      merge-need e = rw (eq-eqb (h .dims) (v .dims) same, le-ltb 16777216 (h .count + more) few, needs-spare h (size v), e)
+      merge-need e = rw (eq-eqb (h .dims) (v .dims) same, few, needs-spare h (size v), e)
 
       pub merge-passes : spare h (size v) ≡ true → mergeOf h v more ≡ Valid
-      merge-passes e = rw (eq-eqb (h .dims) (v .dims) same, le-ltb 16777216 (h .count + more) few, needs-spare h (size v), e)
+      merge-passes e = rw (eq-eqb (h .dims) (v .dims) same, few, needs-spare h (size v), e)
 
   -- where the tests find nothing each of them failed
-  pub merge-passed : mergeOf h v more ≡ Valid → (h .dims ≡ v .dims) × (h .count + more ≤ 16777216) × (spare h (size v) ≡ true)
+  pub merge-passed : mergeOf h v more ≡ Valid → (h .dims ≡ v .dims) × (tooMany (h .count) more ≡ false) × (spare h (size v) ≡ true)
   merge-passed e =
       let c = capacityFor (h .dims) (h .len + size v) in
       let need = refuse (needs h (size v)) NEED c Valid in
-      let few = refuse (ltb 16777216 (h .count + more)) COUNT 0 need in
+      let few = refuse (tooMany (h .count) more) COUNT 0 need in
       let a = refuse-valid (not (eqb (h .dims) (v .dims))) DIFFER 0 few e in
-      let b = refuse-valid (ltb 16777216 (h .count + more)) COUNT 0 need (a .1) in
+      let b = refuse-valid (tooMany (h .count) more) COUNT 0 need (a .1) in
       let d = refuse-valid (needs h (size v)) NEED c Valid (b .1) in (
         eqb-true (h .dims) (v .dims) (not-false (eqb (h .dims) (v .dims)) (a .0)),
-        ltb-false 16777216 (h .count + more) (b .0),
+        b .0,
         not-false (spare h (size v)) (sym (needs-spare h (size v)) ∙ d .0),
       )
 
@@ -93,7 +94,7 @@ whole h = (h .start + h .length) - h .start
 abbrev pub lies : Header → Pair → ℕ → Vector
 lies h p d = vector d (take (h .len) (part (h .start) (whole h) (p .indexes))) (take (h .len) (part (h .start) (whole h) (p .values)))
 
-module _ (h : Header) (p : Pair) (v : Vector) (more : ℕ) (begun : h .begun ≡ true) (g : Given h p v more) (same : h .dims ≡ v .dims) where
+module _ (h : Header) (p : Pair) (v : Vector) (more : ℕ) (begun : h .begun ≡ true) (g : Given h p v) (same : h .dims ≡ v .dims) where
   sure : Sure h p
   sure = state-sure h p (g .state) begun
 
@@ -128,7 +129,7 @@ module _ (h : Header) (p : Pair) (v : Vector) (more : ℕ) (begun : h .begun ≡
   abbrev Summed : Vector → Both → List ℕ → List Float → Type 0
   Summed a = Grown (joins Add a v) (rowTurns a v) (h .capacity) (part (h .start) (whole h) (p .indexes)) (part (h .start) (whole h) (p .values))
 
-  pub merge-done : h .count + more ≤ 16777216 → spare h (size v) ≡ true → {m : Both} {yi : List ℕ} {yv : List Float}
+  pub merge-done : tooMany (h .count) more ≡ false → spare h (size v) ≡ true → {m : Both} {yi : List ℕ} {yv : List Float}
       → Summed (lies h p (v .dims)) m yi yv
       → Acts h (mergeOf h v more) (merged h p v more) p
       (Done (header (h .start) (h .length) true (v .dims) (m .len) (h .capacity) (h .count + more)) (m .turns))

@@ -23,6 +23,7 @@ use Rattle.regions.specs.Capacity.{capacityFor, isCapacity}
 use Rattle.regions.specs.Regions.{Pair, pair, Stands}
 use Rattle.regions.proofs.Capacities.{cap-self, cap-le, cap-more}
 use Rattle.regions.proofs.Stands.{stands-none}
+use Rattle.headers.specs.Headers.{mostRows}
 use Rattle.aggregate_svecf32.specs.States.{held, stateOf}
 use Rattle.aggregate_svecf32.specs.Calls.{Deed, Acts, beginOf, begun, mergeOf, merged, takeOf, taken}
 use Rattle.aggregate_svecf32.specs.Calls.{rowOf, Rows, combineOf, combined, Combines, moveOf, moved, Moves}
@@ -46,7 +47,7 @@ pub record Fits (d : Deed) (p : Pair) : Type 0 where
   pub within : d .room ≤ d .header .capacity
   pub fits : d .header .capacity ≤ d .header .length
   pub some : 1 ≤ d .header .count
-  pub most : d .header .count ≤ 16777216
+  pub most : d .header .count ≤ mostRows
   pub sound : Sound (d .vector)
 
 -- the header of a deed is handed back, has begun, passes its tests in the lists q, and holds the vector of the deed
@@ -105,7 +106,7 @@ module _ {h : Header} {due : Checked} {d : Deed} {p : Pair} {r : Told} {q : Pair
 
 -- the state and the vector passed, and the vector stands for some rows, no more than a count can be
 module _ (h : Header) (p : Pair) (v : Vector) (more : ℕ) (state : stateOf h p ≡ Valid) (row : Sound v) (some : 1 ≤ more)
-    (most : more ≤ 16777216) where
+    (most : more ≤ mostRows) where
   begun-fits : beginOf h v ≡ Valid → Fits (begun h v more) p
   begun-fits e =
       let c = capacityFor (v .dims) (size v) in
@@ -143,7 +144,7 @@ module _ (h : Header) (p : Pair) (v : Vector) (more : ℕ) (state : stateOf h p 
         within = omega arith;
         fits = f .fits;
         some = omega (arith, f .some);
-        most = m .1;
+        most = ltb-false mostRows (h .count + more) (m .1);
         sound = sound sum (joins-valid Add (held h p) v (f .sound) row);
       }
 

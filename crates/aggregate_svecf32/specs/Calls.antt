@@ -19,7 +19,7 @@ use Rattle.regions.specs.Capacity.{capacityFor}
 use Rattle.regions.specs.Regions.{Pair, inside, Stands}
 use Rattle.in_place.specs.Turns.{rowTurns}
 use Rattle.averages.specs.Averages.{shared}
-use Rattle.headers.specs.Headers.{hasRoom}
+use Rattle.headers.specs.Headers.{tooMany, hasRoom}
 use Rattle.aggregate_svecf32.specs.States.{header, numbersOf, held, stateOf}
 use Rattle.aggregate_svecf32.specs.declared.Header.{Header}
 use Rattle.aggregate_svecf32.specs.declared.Told.{Told}
@@ -78,11 +78,11 @@ begun h v count =
 abbrev pub needs : Header → ℕ → Bool
 needs h n = not (eqb (h .capacity) (h .dims)) && ltb (h .capacity - h .len) n
 
--- "A later row needs equal dims"; "Counts stop at 16,777,216"
+-- "A later row needs equal dims"
 abbrev pub mergeOf : Header → Vector → ℕ → Checked
 mergeOf h v more =
     refuse (not (eqb (h .dims) (v .dims))) DIFFER 0
-    (refuse (ltb 16777216 (h .count + more)) COUNT 0
+    (refuse (tooMany (h .count) more) COUNT 0
     (refuse (needs h (size v)) NEED (capacityFor (h .dims) (h .len + size v))
     Valid))
 

@@ -1,5 +1,4 @@
 -- What the inner calls of the aggregate are handed, and what they promise to the calls above them. A user's promises do not cite these.
-use Prim.Native.Nat.{ℕ, _≤_}
 use mathlib.Core.Path.{_≡_}
 use Rattle.refusal.specs.declared.Checked.the-variants.{Valid}
 use Rattle.sparse.specs.Vectors.{Vector}
@@ -8,8 +7,7 @@ use Rattle.regions.specs.Regions.{Pair}
 use Rattle.aggregate_svecf32.specs.States.{stateOf}
 use Rattle.aggregate_svecf32.specs.declared.Header.{Header}
 
--- a state and a vector that passed, which stands for no more rows than a count can be
-pub record Given (h : Header) (p : Pair) (v : Vector) (more : ℕ) : Type 0 where
+-- a state and a vector that passed
+pub record Given (h : Header) (p : Pair) (v : Vector) : Type 0 where
   pub state : stateOf h p ≡ Valid
   pub row : Sound v
-  pub most : more ≤ 16777216

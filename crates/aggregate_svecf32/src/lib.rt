@@ -26,7 +26,7 @@ pub struct Header {
     pub dims: u32,
     pub len: usize,
     pub capacity: usize,
-    pub count: u32,
+    pub count: u64,
 }
 
 // What `row`, `combine` and `move_to` answer: the new header and the turns; or the header as it was, a

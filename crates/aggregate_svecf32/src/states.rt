@@ -14,7 +14,7 @@ pub fn done(
     dims: u32,
     len: usize,
     capacity: usize,
-    count: u32,
+    count: u64,
     turns: usize,
 ) -> Told
     ensures { λ r. ⌜ r ≡ Told.Done (header start length true dims len capacity count) turns ⌝ }

@@ -19,9 +19,9 @@ fn begin(
     dims: u32,
     bi: &[u32],
     bv: &[f32],
-    count: u32,
+    count: u64,
 ) -> Told
-    requires { ⌜ Given h (pair (now ai) (now av)) (vector dims (now bi) (now bv)) count ⌝ }
+    requires { ⌜ Given h (pair (now ai) (now av)) (vector dims (now bi) (now bv)) ⌝ }
     ensures { λ r. ⌜ Acts h (beginOf h (vector dims (now (bi .entry)) (now (bv .entry)))) (begun h (vector dims (now (bi .entry)) (now (bv .entry))) count) (pair (now (ai .entry)) (now (av .entry))) r (pair (now (ai .exit)) (now (av .exit))) ⌝ }
 {
     let capacity = regions::capacity(dims, bi.len());
@@ -40,19 +40,19 @@ fn merge(
     dims: u32,
     bi: &[u32],
     bv: &[f32],
-    more: u32,
+    more: u64,
 ) -> Told
     requires { ⌜ h .begun ≡ true ⌝ }
-    requires { ⌜ Given h (pair (now ai) (now av)) (vector dims (now bi) (now bv)) more ⌝ }
+    requires { ⌜ Given h (pair (now ai) (now av)) (vector dims (now bi) (now bv)) ⌝ }
     ensures { λ r. ⌜ Acts h (mergeOf h (vector dims (now (bi .entry)) (now (bv .entry))) more) (merged h (pair (now (ai .entry)) (now (av .entry))) (vector dims (now (bi .entry)) (now (bv .entry))) more) (pair (now (ai .entry)) (now (av .entry))) r (pair (now (ai .exit)) (now (av .exit))) ⌝ }
 {
     if h.dims != dims {
         return Told::Refused(h, refusal::DIFFER, 0);
     }
-    let count = h.count + more;
-    if 16777216 < count {
+    if headers::are_too_many(h.count, more) {
         return Told::Refused(h, refusal::COUNT, 0);
     }
+    let count = h.count + more;
     if !headers::has_room(h.dims, h.len, h.capacity, bi.len()) {
         let wanted = regions::capacity(h.dims, h.len + bi.len());
         return Told::Refused(h, refusal::NEED, wanted);
@@ -79,9 +79,9 @@ pub fn take(
     dims: u32,
     bi: &[u32],
     bv: &[f32],
-    more: u32,
+    more: u64,
 ) -> Told
-    requires { ⌜ Given h (pair (now ai) (now av)) (vector dims (now bi) (now bv)) more ⌝ }
+    requires { ⌜ Given h (pair (now ai) (now av)) (vector dims (now bi) (now bv)) ⌝ }
     ensures { λ r. ⌜ Acts h (takeOf h (vector dims (now (bi .entry)) (now (bv .entry))) more) (taken h (pair (now (ai .entry)) (now (av .entry))) (vector dims (now (bi .entry)) (now (bv .entry))) more) (pair (now (ai .entry)) (now (av .entry))) r (pair (now (ai .exit)) (now (av .exit))) ⌝ }
 {
     if h.begun {

@@ -68,7 +68,7 @@ pub record Dividing (count : ℕ) (v : Vector) (oi : List ℕ) (ov : List Float)
 pub dividing-start : {count : ℕ} {v : Vector} {oi : List ℕ} {ov : List Float} → Dividing count v oi ov oi ov 0 0
 dividing-start = record { few = omega arith; going = going-start written-none }
 
-module _ {count : ℕ} {v : Vector} {oi : List ℕ} {ov : List Float} (r : Divides v count oi ov)
+module _ {count : ℕ} {v : Vector} {oi : List ℕ} {ov : List Float} (r : Divides v oi ov)
     {oi′ : List ℕ} {ov′ : List Float} {p n : ℕ} (d : Dividing count v oi ov oi′ ov′ p n) where
   quiet : Quiet v (nothing (v .dims)) (Written (overAt count v) oi ov oi′ ov′ n)
   quiet i ev eb w = written-empty w (ap (over count) ev)

@@ -7,10 +7,9 @@ use lib.Ieee.{Float}
 use Rattle.sparse.specs.Vectors.{Vector, size}
 use Rattle.sparse.specs.Sound.{Sound}
 
--- a vector that passed, a count that is a float exactly, and room for the vector's entries
-pub record Divides (v : Vector) (count : ℕ) (oi : List ℕ) (ov : List Float) : Type 0 where
+-- a vector that passed, and room for its entries
+pub record Divides (v : Vector) (oi : List ℕ) (ov : List Float) : Type 0 where
   pub sound : Sound v
-  pub most : count ≤ 16777216
   pub room : size v ≤ length oi
   pub room′ : size v ≤ length ov
 

@@ -1,4 +1,4 @@
--- Whatever valid rows of one dims there are, up to 16,777,216 of them, some run takes them all in: one state, in a region of d places, takes one
+-- Whatever valid rows of one dims there are, as many as a count can be, some run takes them all in: one state, in a region of d places, takes one
 -- row after the other; where it answers NEED it moves to the next pair of lists, and the row comes again. Assumes nothing.
 use Prim.Native.Nat.{ℕ, suc, _+_, _≤_}
 use native.Mathlib.Omega.{arith}
@@ -20,7 +20,7 @@ use Rattle.regions.specs.Capacity.{capacityFor}
 use Rattle.regions.specs.Regions.{Pair, pair, inside}
 use Rattle.regions.proofs.Capacities.{cap-most}
 use Rattle.regions.proofs.Stands.{both-inside}
-use Rattle.headers.specs.Headers.{passes}
+use Rattle.headers.specs.Headers.{mostRows, passes, tooMany}
 use Rattle.aggregate_svecf32.specs.States.{fresh, stateOf}
 use Rattle.aggregate_svecf32.specs.Calls.{Deed, Acts, mergeOf, spare, rowOf}
 use Rattle.aggregate_svecf32.specs.declared.Header.{Header}
@@ -123,17 +123,20 @@ module _ {d : ℕ} (v : Vector) (passed : checkedOf v ≡ Valid) (same : v .dims
           rw (changed-at (r .m) q (o .1)) (rw (k .told) at (good .1 (o .0) (o .1) (o .2))),
         )
 
-  later : {rows : List Vector} → Reached d rows → suc (length rows) ≤ 16777216 → Reached d (v ∷ rows)
+  later : {rows : List Vector} → Reached d rows → suc (length rows) ≤ mostRows → Reached d (v ∷ rows)
   unfolding rowOf
   later {rows} r few = go (spare (r .h) (size v)) refl
     where
       tests : {c : Checked} → mergeOf (r .h) v 1 ≡ c → due r v ≡ c
       tests e = rw (passed, r .state, r .begun) e
 
+      fewer : tooMany (r .h .count) 1 ≡ false
+      fewer = le-ltb mostRows (r .h .count + 1) (omega (arith, r .count))
+
       go : (b : Bool) → spare (r .h) (size v) ≡ b → Reached d (v ∷ rows)
-      go true f = taking r (tests (merge-passes (r .h) v 1 (r .dims ∙ sym same) (omega (arith, r .count)) f))
+      go true f = taking r (tests (merge-passes (r .h) v 1 (r .dims ∙ sym same) fewer f))
       go false f =
-          let need = tests (merge-need (r .h) v 1 (r .dims ∙ sym same) (omega (arith, r .count)) f) in
+          let need = tests (merge-need (r .h) v 1 (r .dims ∙ sym same) fewer f) in
           let a = moving r need (omega (arith, r .dims, cap-most (r .h .dims) (r .h .len + size v))) in
           taking (a .0) (a .1)
 

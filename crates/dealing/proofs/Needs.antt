@@ -7,7 +7,7 @@ use mathlib.Core.Logic.{⊎-elim}
 use mathlib.Core.Path.{_≡_, refl, sym, subst, _∙_}
 use lib.Dec.{eqb, ltb}
 use lib.ListN.{length}
-use borrow.Author.Tests.{eq-eqb, le-ltb, le-leb, eqb-true, ltb-false, not-false}
+use borrow.Author.Tests.{eq-eqb, le-ltb, le-leb, eqb-true, not-false}
 use Rattle.places.specs.Below.{anyBelow}
 use Rattle.refusal.specs.Answers.{refuse, next}
 use Rattle.refusal.specs.Numbers.{NEED}
@@ -20,6 +20,7 @@ use Rattle.sparse.proofs.Checks.{sound, size-most}
 use Rattle.regions.specs.Capacity.{capacityFor}
 use Rattle.regions.specs.Regions.{Pair, inside}
 use Rattle.regions.proofs.Capacities.{cap-room}
+use Rattle.headers.specs.Headers.{tooMany}
 use Rattle.aggregate_svecf32.specs.States.{held, consistent, stateOf}
 use Rattle.aggregate_svecf32.specs.Calls.{beginOf, spare, mergeOf, takeOf, rowOf, combineOf, moveOf, moved, Moves}
 use Rattle.aggregate_svecf32.specs.declared.Header.{Header}
@@ -67,7 +68,7 @@ past-all (Refused n p) later other e = absurd (other e)
 record Wanting (h : Header) (v : Vector) (more c : ℕ) : Type 0 where
   begun : h .begun ≡ true
   same : h .dims ≡ v .dims
-  few : h .count + more ≤ 16777216
+  few : tooMany (h .count) more ≡ false
   full : spare h (size v) ≡ false
   wants : capacityFor (h .dims) (h .len + size v) ≡ c
 
@@ -75,7 +76,7 @@ module _ (h : Header) (v : Vector) (more : ℕ) {c : ℕ} where
   wanting : takeOf h v more ≡ Refused NEED c → Wanting h v more c
   wanting = go (h .begun) refl
     where
-      full : h .begun ≡ true → h .dims ≡ v .dims → h .count + more ≤ 16777216 → mergeOf h v more ≡ Refused NEED c
+      full : h .begun ≡ true → h .dims ≡ v .dims → tooMany (h .count) more ≡ false → mergeOf h v more ≡ Refused NEED c
           → (b : Bool) → spare h (size v) ≡ b → Wanting h v more c
       full t same few e true f = absurd (never (sym (merge-passes h v more same few f) ∙ e))
       full t same few e false f = record { begun = t; same = same; few = few; full = f; wants = cc (merge-need h v more same few f) }
@@ -84,8 +85,8 @@ module _ (h : Header) (v : Vector) (more : ℕ) {c : ℕ} where
       go false t e = absurd (never (past (ltb (h .length) (capacityFor (v .dims) (size v))) 9 _ _ e (omega arith) .1))
       go true t e =
           let a = past (not (eqb (h .dims) (v .dims))) 7 0 _ e (omega arith) in
-          let b = past (ltb 16777216 (h .count + more)) 11 0 _ (a .1) (omega arith) in
-          full t (eqb-true (h .dims) (v .dims) (not-false _ (a .0))) (ltb-false 16777216 (h .count + more) (b .0)) e (spare h (size v)) refl
+          let b = past (tooMany (h .count) more) 11 0 _ (a .1) (omega arith) in
+          full t (eqb-true (h .dims) (v .dims) (not-false _ (a .0))) (b .0) e (spare h (size v)) refl
 
 -- a move for n entries more to a region passes, and whatever it hands back and leaves, the tests that found NEED then find nothing
 abbrev pub Mends : Header → Pair → ℕ → Pair → ℕ → ℕ → (Header → Pair → Checked) → Type 0

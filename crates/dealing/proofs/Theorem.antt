@@ -35,7 +35,7 @@ no-bit-changes {rows = rows} r r′ p d t =
       average = λ oi ov q q′ xi yi xv yv f g. one-writes (a .average oi ov q xi xv f) (b .average oi ov q′ yi yv g);
     }
 
--- A finished run took in valid rows of one dims, at most 16,777,216 of them: so what `Dealable` asks is no more than that a run can finish
+-- A finished run took in valid rows of one dims, as many as a count can be at most: so what `Dealable` asks is no more than that a run can finish
 pub finished-dealable : {m : Store} {s : State} {rows : List Vector} → Finished m s rows → Dealable (s .header .dims) rows
 finished-dealable {m} {s} {rows} r = go rows (all-rows (owns r))
   where

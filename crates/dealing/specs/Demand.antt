@@ -10,7 +10,7 @@ use Rattle.refusal.specs.declared.Written.{Written}
 use Rattle.sparse.specs.Vectors.{Vector, size}
 use Rattle.sparse.specs.Calls.{checkedOf, roomOf, Leaves}
 use Rattle.sparse.specs.Numbers.{isWhole}
-use Rattle.headers.specs.Headers.{passes}
+use Rattle.headers.specs.Headers.{mostRows, passes}
 use Rattle.aggregate_svecf32.specs.Calls.{Sums, Averages}
 use Rattle.dealing.specs.Runs.{Store, State}
 use Rattle.dealing.specs.Totals.{weightAt, totals, averages}
@@ -24,8 +24,8 @@ pub record Dealable (d : ℕ) (rows : List Vector) : Type 0 where
   pub valid : T (all (λ v. passes (checkedOf v)) rows)
   -- "of one dims"
   pub dims : T (all (λ v. eqb (v .dims) d) rows)
-  -- "at most 16,777,216 rows"
-  pub few : length rows ≤ 16777216
+  -- request #109: "any row count up to the u64 end"
+  pub few : length rows ≤ mostRows
 
 -- Rows whose totals are exact
 pub record Exact (rows : List Vector) : Type 0 where
@@ -36,7 +36,7 @@ pub record Exact (rows : List Vector) : Type 0 where
   -- "magnitudes at each index adding up to at most 16,777,216"
   pub small : (k : ℕ) → weightAt rows k ≤ 16777216
 
--- "Take one or more valid rows of one dims, at most 16,777,216 rows, all values whole numbers, magnitudes at each index adding up to .."
+-- "Take one or more valid rows of one dims, .. all values whole numbers, magnitudes at each index adding up to .."
 pub record Takes (d : ℕ) (rows : List Vector) : Type 0 where
   -- "one or more"
   pub some : 1 ≤ length rows

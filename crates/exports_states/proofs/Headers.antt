@@ -17,36 +17,34 @@ use Rattle.aggregate_svecf32.specs.declared.Header.{Header}
 use Rattle.exports_states.specs.States.{noHeader, headerOf}
 
 -- numbers that a header has
-pub header-numbers : (b d n : ℕ) → noHeader b d n ≡ false → (b ≤ 1) × (d ≤ 4294967295) × (n ≤ 4294967295)
-header-numbers b d n e = go (ltb 1 b) (ltb 4294967295 d) (ltb 4294967295 n) refl refl refl e
+pub header-numbers : (b d : ℕ) → noHeader b d ≡ false → (b ≤ 1) × (d ≤ 4294967295)
+header-numbers b d e = go (ltb 1 b) (ltb 4294967295 d) refl refl e
   where
-    go : (x y z : Bool) → ltb 1 b ≡ x → ltb 4294967295 d ≡ y → ltb 4294967295 n ≡ z → (x || y || z) ≡ false
-        → (b ≤ 1) × (d ≤ 4294967295) × (n ≤ 4294967295)
-    go false false false p q r e = (ltb-false 1 b p, ltb-false 4294967295 d q, ltb-false 4294967295 n r)
-    go true y z p q r e = absurd (true≢false e)
-    go false true z p q r e = absurd (true≢false e)
-    go false false true p q r e = absurd (true≢false e)
+    go : (x y : Bool) → ltb 1 b ≡ x → ltb 4294967295 d ≡ y → (x || y) ≡ false → (b ≤ 1) × (d ≤ 4294967295)
+    go false false p q e = (ltb-false 1 b p, ltb-false 4294967295 d q)
+    go true y p q e = absurd (true≢false e)
+    go false true p q e = absurd (true≢false e)
 
 zero-or-one : (b : ℕ) → b ≤ 1 → one (eqb b 1) ≡ b
 zero-or-one zero h = refl
 zero-or-one (suc zero) h = refl
 zero-or-one (suc (suc b)) h = absurd (omega arith)
 
--- dims and count are a u32 in every header
-pub back : (h : Header) → h .dims ≤ 4294967295 → h .count ≤ 4294967295 → headerOf (numbersOf h) ≡ h
-back h d n = go (h .begun) refl
+-- dims is a u32 in every header
+pub back : (h : Header) → h .dims ≤ 4294967295 → headerOf (numbersOf h) ≡ h
+back h d = go (h .begun) refl
   where
     go : (b : Bool) → h .begun ≡ b → headerOf (numbersOf h) ≡ h
-    go true e = rw (e, le-ltb 4294967295 (h .dims) d, le-ltb 4294967295 (h .count) n)
-    go false e = rw (e, le-ltb 4294967295 (h .dims) d, le-ltb 4294967295 (h .count) n)
+    go true e = rw (e, le-ltb 4294967295 (h .dims) d)
+    go false e = rw (e, le-ltb 4294967295 (h .dims) d)
 
 -- and numbers that a header has are those of the header that is read from them
-pub same-numbers : (start length b d len capacity n : ℕ) → noHeader b d n ≡ false
+pub same-numbers : (start length b d len capacity n : ℕ) → noHeader b d ≡ false
     → let ns = start ∷ length ∷ b ∷ d ∷ len ∷ capacity ∷ n ∷ [] in numbersOf (headerOf ns) ≡ ns
-same-numbers start length b d len capacity n e = rw (e, zero-or-one b (header-numbers b d n e .0))
+same-numbers start length b d len capacity n e = rw (e, zero-or-one b (header-numbers b d e .0))
 
 -- numbers that no header has are never consistent, whatever the lists
-module _ (ns : List ℕ) (bad : noHeader (getD ns 2 0) (getD ns 3 0) (getD ns 6 0) ≡ true) (p : Pair) where
+module _ (ns : List ℕ) (bad : noHeader (getD ns 2 0) (getD ns 3 0) ≡ true) (p : Pair) where
   pub never-consistent : consistent (headerOf ns) p ≡ false
   unfolding consistent
   never-consistent = rw bad

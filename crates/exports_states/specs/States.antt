@@ -11,9 +11,9 @@ use Rattle.aggregate_svecf32.specs.declared.Header.{Header}
 use Rattle.aggregate_svecf32.specs.declared.Told.{Told}
 use Rattle.aggregate_svecf32.specs.declared.Told.the-variants.{Done, Refused as Kept}
 
--- no header has these numbers: begun is neither 0 nor 1, or dims or count are above the largest u32
-abbrev pub noHeader : ℕ → ℕ → ℕ → Bool
-noHeader begun d count = ltb 1 begun || ltb 4294967295 d || ltb 4294967295 count
+-- no header has these numbers: begun is neither 0 nor 1, or dims is above the largest u32
+abbrev pub noHeader : ℕ → ℕ → Bool
+noHeader begun d = ltb 1 begun || ltb 4294967295 d
 
 -- a header of this region that is never consistent: it has begun, with dims 0
 abbrev pub badHeader : ℕ → ℕ → Header
@@ -22,7 +22,7 @@ badHeader start length = header start length true 0 0 0 0
 -- the header that a list of numbers is
 abbrev pub headerOf : List ℕ → Header
 headerOf ns =
-    let at : ℕ → ℕ = λ i. getD ns i 0 in cond (noHeader (at 2) (at 3) (at 6)) (badHeader (at 0) (at 1)) (headerFrom ns)
+    let at : ℕ → ℕ = λ i. getD ns i 0 in cond (noHeader (at 2) (at 3)) (badHeader (at 0) (at 1)) (headerFrom ns)
 
 -- what an answer says, as a caller finds it whose header had the numbers `old`: a refusal leaves them as they were, also where they are those
 -- of no header

@@ -30,23 +30,20 @@ fn bad_header(start: u64, length: u64) -> Header
 }
 
 // Whether no header has these numbers.
-fn is_no_header(begun: u64, dims: u64, count: u64) -> bool
-    ensures { λ r. ⌜ r ≡ noHeader begun dims count ⌝ }
+fn is_no_header(begun: u64, dims: u64) -> bool
+    ensures { λ r. ⌜ r ≡ noHeader begun dims ⌝ }
 {
     if 1 < begun {
         return true;
     }
-    if 4294967295 < dims {
-        return true;
-    }
-    4294967295 < count
+    4294967295 < dims
 }
 
 // The header that seven numbers are.
 fn header_of(h: &[u64; 7]) -> Header
     ensures { λ r. ⌜ r ≡ headerOf (now (h .entry)) ⌝ }
 {
-    if is_no_header(h[2], h[3], h[6]) {
+    if is_no_header(h[2], h[3]) {
         return bad_header(h[0], h[1]);
     }
     Header {
@@ -56,7 +53,7 @@ fn header_of(h: &[u64; 7]) -> Header
         dims: h[3] as u32,
         len: h[4] as usize,
         capacity: h[5] as usize,
-        count: h[6] as u32,
+        count: h[6],
     }
 }
 
@@ -71,7 +68,7 @@ fn put_header(h: &mut [u64; 7], new: Header)
         new.dims as u64,
         new.len as u64,
         new.capacity as u64,
-        new.count as u64,
+        new.count,
     ];
 }
 

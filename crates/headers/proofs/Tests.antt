@@ -1,10 +1,12 @@
 -- What numbers that pass a header's tests are, and that such numbers pass them. Assumes nothing.
 use Prim.Native.Nat.{ℕ, _+_, _-_, _≤_}
+use native.Mathlib.Decide.{decLe}
 use native.Mathlib.Nat.{add-sub-cancel-left}
+use native.Mathlib.Omega.{arith}
 use mathlib.Core.Bool.{Bool, true, false, not, _&&_, true≢false}
 use mathlib.Core.Path.{_≡_, refl, sym}
 use lib.Dec.{leb, ltb, eqb}
-use borrow.Author.Tests.{eqb-true, ltb-true, leb-true, lt-ltb, le-leb}
+use borrow.Author.Tests.{eqb-true, ltb-true, leb-true, lt-ltb, le-ltb, le-leb}
 use Rattle.places.proofs.Below.{and-true}
 use Rattle.refusal.specs.declared.Checked.{Checked}
 use Rattle.refusal.specs.declared.Checked.the-variants.{Valid, Refused}
@@ -15,7 +17,7 @@ use Rattle.sparse.specs.Sound.{Sound}
 use Rattle.sparse.proofs.Checks.{sound, valid}
 use Rattle.regions.specs.Capacity.{isCapacity}
 use Rattle.regions.specs.Regions.{Pair, part}
-use Rattle.headers.specs.Headers.{passes, fair, zeros}
+use Rattle.headers.specs.Headers.{mostRows, passes, fair, zeros, tooMany}
 
 -- the numbers of a header that has begun, and the vector of its entries
 pub record Fair (length len c count : ℕ) (v : Vector) : Type 0 where
@@ -23,7 +25,7 @@ pub record Fair (length len c count : ℕ) (v : Vector) : Type 0 where
   pub room : len ≤ c
   pub fits : c ≤ length
   pub some : 1 ≤ count
-  pub most : count ≤ 16777216
+  pub most : count ≤ mostRows
   pub sound : Sound v
 
 -- those of a header that has not
@@ -41,6 +43,14 @@ passed (Refused n p) e = absurd (true≢false (sym e))
 failed : (b : Bool) → (b ≡ true → ⊥) → b ≡ false
 failed true wrong = absurd (wrong refl)
 failed false wrong = refl
+
+-- what is left to count is less than what comes, or the sum does not pass the limit
+pub left-fewer : (n m : ℕ) → n ≤ mostRows → ltb (mostRows - n) m ≡ tooMany n m
+left-fewer n m h =
+    elim (decLe m (mostRows - n)) [
+      | yes l ↦ rw (le-ltb (mostRows - n) m l, le-ltb mostRows (n + m) (omega arith))
+      | no l ↦ rw (lt-ltb (mostRows - n) m (omega arith), lt-ltb mostRows (n + m) (omega arith))
+    ]
 
 -- the n entries from `start` on, lent as those from there up to their end
 pub entries-cut : (d start n : ℕ) (p : Pair)
@@ -75,9 +85,9 @@ module _ (length len capacity count : ℕ) (v : Vector) where
       let roomy : Bool = sized && leb len capacity in
       let fitting : Bool = roomy && leb capacity length in
       let counted : Bool = fitting && ltb 0 count in
-      let few : Bool = counted && leb count 16777216 in
+      let few : Bool = counted && leb count mostRows in
       let a = and-true few (passes (checkedOf v)) e in
-      let b = and-true counted (leb count 16777216) (a .0) in
+      let b = and-true counted (leb count mostRows) (a .0) in
       let c = and-true fitting (ltb 0 count) (b .0) in
       let d = and-true roomy (leb capacity length) (c .0) in
       let f = and-true sized (leb len capacity) (d .0) in
@@ -87,7 +97,7 @@ module _ (length len capacity count : ℕ) (v : Vector) where
         room = leb-true len capacity (f .1);
         fits = leb-true capacity length (d .1);
         some = ltb-true 0 count (c .1);
-        most = leb-true count 16777216 (b .1);
+        most = leb-true count mostRows (b .1);
         sound = sound v (passed (checkedOf v) (a .1));
       }
 
@@ -99,7 +109,7 @@ module _ (length len capacity count : ℕ) (v : Vector) where
         le-leb len capacity (f .room),
         le-leb capacity length (f .fits),
         lt-ltb 0 count (f .some),
-        le-leb count 16777216 (f .most),
+        le-leb count mostRows (f .most),
         valid v (f .sound),
       )
 

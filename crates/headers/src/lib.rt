@@ -6,10 +6,10 @@ ghost use mathlib.Core.Path.{_≡_};
 ghost use Prim.Native.Nat.{_≤_};
 ghost use Rattle.sparse.specs.Vectors.{vector};
 ghost use Rattle.regions.specs.Regions.{pair, part, inside};
-ghost use Rattle.headers.specs.Headers.{fair, zeros, hasRoom};
+ghost use Rattle.headers.specs.Headers.{fair, zeros, tooMany, hasRoom};
 
 // Whether the numbers of a header without rows are consistent.
-pub fn is_all_zero(dims: u32, len: usize, capacity: usize, count: u32) -> bool
+pub fn is_all_zero(dims: u32, len: usize, capacity: usize, count: u64) -> bool
     ensures { λ r. ⌜ r ≡ zeros dims len capacity count ⌝ }
 {
     if dims != 0 {
@@ -32,7 +32,7 @@ pub fn is_begun_fairly(
     dims: u32,
     len: usize,
     capacity: usize,
-    count: u32,
+    count: u64,
     ai: &[u32],
     av: &[f32],
 ) -> bool
@@ -51,14 +51,19 @@ pub fn is_begun_fairly(
     if count == 0 {
         return false;
     }
-    if 16777216 < count {
-        return false;
-    }
     let end = start + len;
     if let Checked::Refused(number, place) = sparse::check(dims, &ai[start..end], &av[start..end]) {
         return false;
     }
     true
+}
+
+// Whether the rows that came and the rows to come are more than a count can be. Their sum is not formed: it
+// could wrap.
+pub fn are_too_many(count: u64, more: u64) -> bool
+    ensures { λ r. ⌜ r ≡ tooMany count more ⌝ }
+{
+    18446744073709551615 - count < more
 }
 
 // Whether a state needs no larger region for n entries more: it has one for every place, or it has room

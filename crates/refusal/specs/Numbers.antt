@@ -46,7 +46,7 @@ ROOM = 9
 abbrev pub NEED : ℕ
 NEED = 10
 
--- the count would pass 16,777,216: place 0
+-- the count would pass 16,777,216, and since request #109 18,446,744,073,709,551,615: place 0
 abbrev pub COUNT : ℕ
 COUNT = 11
 

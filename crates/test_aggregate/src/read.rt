@@ -52,9 +52,9 @@ pub fn small(n: u64) -> u32 {
     }
 }
 
-// Whether seven numbers are a header's: dims and count are u32, and begun is 1 or 0.
+// Whether seven numbers are a header's: dims is a u32, and begun is 1 or 0.
 pub fn is_header(n: &[u64; 7]) -> bool {
-    n[2] <= 1 && n[3] <= 4294967295 && n[6] <= 4294967295
+    n[2] <= 1 && n[3] <= 4294967295
 }
 
 // The header of seven numbers.
@@ -66,7 +66,7 @@ pub fn header(n: &[u64; 7]) -> Header {
         dims: small(n[3]),
         len: n[4] as usize,
         capacity: n[5] as usize,
-        count: small(n[6]),
+        count: n[6],
     }
 }
 

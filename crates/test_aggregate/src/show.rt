@@ -20,7 +20,7 @@ pub fn header(h: Header) {
     shown::number(h.dims as u64);
     shown::number(h.len as u64);
     shown::number(h.capacity as u64);
-    shown::number(h.count as u64);
+    shown::number(h.count);
 }
 
 pub fn told(r: Told) {

@@ -44,7 +44,7 @@ fn average(h: Header, ai: &Indexes, av: &Values) {
 // The count, the sum and the average of a state.
 pub fn total(h: Header, ai: &Indexes, av: &Values) {
     shown::text(b"count");
-    shown::number(h.count as u64);
+    shown::number(h.count);
     sum(h, ai, av);
     average(h, ai, av);
     shown::text(b"\n");

@@ -12,11 +12,12 @@
 //     bit counts | B | B
 //     bit and | B | B            also or, xor
 //     aggregate capacity | DIMS N
+//     aggregate average | COUNT | V
 //     aggregate run | STEP | STEP | ..
 //
 // V is a sparse vector, its dims and then its entries, and a BOUND one end of a slice, both as `cases` reads them. B
 // is a bit vector, its dims and then its words in hex. `counts` are the ones of AND, OR and XOR, and then the two of
-// `sum_of_and_or`. A run has two states, without rows at the start, and these steps:
+// `sum_of_and_or`. `average` is that of a state that holds V, with COUNT rows. A run has two states, without rows at the start, and these steps:
 //
 //     first V     a row to the first state
 //     second V    a row to the second state

@@ -30,6 +30,7 @@ pub enum Call {
     One,
     Counts,
     Capacity,
+    Average,
     Run,
     Unknown,
 }
@@ -76,6 +77,7 @@ pub fn call_of(name: u64) -> Call {
         0x6f6e65 => Call::One,
         0x636f756e7473 => Call::Counts,
         0x6361706163697479 => Call::Capacity,
+        0x61766572616765 => Call::Average,
         0x72756e => Call::Run,
         _ => Call::Unknown,
     }

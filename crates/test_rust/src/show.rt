@@ -64,7 +64,7 @@ fn state(h: Header) {
     shown::digits(h.dims as u64);
     shown::number(h.len as u64);
     shown::number(h.capacity as u64);
-    shown::number(h.count as u64);
+    shown::number(h.count);
 }
 
 // The state that a call left, or its refusal.

@@ -3,10 +3,7 @@
 use Prim.Native.Nat.{_-_}
 use native.Mathlib.Omega.{arith}
 use lib.ListN.{length}
-use lib.IntN.{pos}
-use lib.Ieee.{binary32}
 use borrow.Author.Needs.{needs}
-use Rattle.whole.proofs.Numbers.{in-float}
 use Rattle.sparse.specs.Vectors.{vector}
 use Rattle.averages.proofs.Shares.{Dividing, dividing-start, dividing-lengths}
 use Rattle.averages.proofs.Shares.{dividing-more, dividing-done}
@@ -22,8 +19,8 @@ abbrev μ-loop : tie.MeasureT-loop
 abbrev start : tie.At-loop Inv-loop μ-loop → tie.Start Inv-loop μ-loop
 start c = c .before .before .before .before .before .before
 
-int-to-float-by : tie.Need-int-to-float-by Inv-loop μ-loop
-int-to-float-by c = let s = c .before .before .before .before .before in in-float binary32 (pos (s .args .count)) (s .pre .most)
+of-u64-requires : tie.Need-of-u64-requires Inv-loop μ-loop
+of-u64-requires c κs = search needs
 
 loop-holds : tie.Need-loop-holds Inv-loop μ-loop
 loop-holds c = dividing-start
@@ -61,7 +58,8 @@ loop-again : tie.Need-loop-again Inv-loop μ-loop
 loop-again c =
     let k = c .before .before .before .before .before .before .before .before in
     let l = k .before .before .before in
-    dividing-more (start l .pre) (l .loop .inv) (omega arith) (k .kept .ensures) (c .before .before .before .before .put .ensures)
+    let z = rw (l .before .of-u64 .ensures) at (k .kept .ensures) in
+    dividing-more (start l .pre) (l .loop .inv) (omega arith) z (c .before .before .before .before .put .ensures)
 
 same-length : tie.Need-same-length Inv-loop μ-loop
 same-length c = dividing-lengths (start (c .before) .pre) (c .before .loop .inv) .0
@@ -78,7 +76,7 @@ divide-spec =
     (tie.spec
     Inv-loop
     μ-loop
-    int-to-float-by
+    of-u64-requires
     loop-holds
     mul-kept
     shared-slice-read-kept

@@ -11,28 +11,24 @@ use Rattle.exports_states.proofs.header_of.Statement.{statement}
 use Rattle.exports_states.proofs.header_of.Tie as tie
 
 -- what the test found
-test : (c : tie.After-is-no-header) → let h = c .before .before .before .before .args .h .now in
-    noHeader (getD h 2 0) (getD h 3 0) (getD h 6 0) ≡ c .is-no-header .result
+test : (c : tie.After-is-no-header) → let h = c .before .before .before .args .h .now in
+    noHeader (getD h 2 0) (getD h 3 0) ≡ c .is-no-header .result
 test c = sym (c .is-no-header .ensures)
 
 -- the numbers are those of a header
-passed : (c : tie.Else1) → let h = c .before .before .before .before .before .args .h .now in
-    noHeader (getD h 2 0) (getD h 3 0) (getD h 6 0) ≡ false
+passed : (c : tie.Else1) → let h = c .before .before .before .before .args .h .now in
+    noHeader (getD h 2 0) (getD h 3 0) ≡ false
 passed c = test (c .before) ∙ c .if1 .left
 
--- so dims and count are a u32
-small : (c : tie.Else1) → let h = c .before .before .before .before .before .args .h .now in
-    (getD h 2 0 ≤ 1) × (getD h 3 0 ≤ 4294967295) × (getD h 6 0 ≤ 4294967295)
-small c = header-numbers _ _ _ (passed c)
+-- so dims is a u32
+small : (c : tie.Else1) → let h = c .before .before .before .before .args .h .now in getD h 3 0 ≤ 4294967295
+small c = let h = c .before .before .before .before .args .h .now in header-numbers (getD h 2 0) (getD h 3 0) (passed c) .1
 
 element-copy-out-is-no-header : tie.Need-element-copy-out-is-no-header
 element-copy-out-is-no-header c = search needs
 
 element-copy-out-is-no-header-2 : tie.Need-element-copy-out-is-no-header-2
 element-copy-out-is-no-header-2 c = search needs
-
-element-copy-out-is-no-header-3 : tie.Need-element-copy-out-is-no-header-3
-element-copy-out-is-no-header-3 c = search needs
 
 is-no-header-requires : tie.Need-is-no-header-requires
 is-no-header-requires c κs = search needs
@@ -55,26 +51,23 @@ element-copy-out-t5 c = search needs
 element-copy-out-t8 : tie.Need-element-copy-out-t8
 element-copy-out-t8 c = search needs
 
-element-copy-out-t11 : tie.Need-element-copy-out-t11
-element-copy-out-t11 c = search needs
+element-copy-out-t23 : tie.Need-element-copy-out-t23
+element-copy-out-t23 c = search needs
 
-element-copy-out-t29 : tie.Need-element-copy-out-t29
-element-copy-out-t29 c = search needs
+element-copy-out-t27 : tie.Need-element-copy-out-t27
+element-copy-out-t27 c = search needs
 
-cast-t30 : tie.Need-cast-t30
-cast-t30 c = omega (arith, small (c .before .before .before .before) .1)
+cast-t28 : tie.Need-cast-t28
+cast-t28 c = omega (arith, small (c .before .before .before .before))
 
-element-copy-out-t33 : tie.Need-element-copy-out-t33
-element-copy-out-t33 c = search needs
+element-copy-out-t31 : tie.Need-element-copy-out-t31
+element-copy-out-t31 c = search needs
 
-element-copy-out-t37 : tie.Need-element-copy-out-t37
-element-copy-out-t37 c = search needs
+element-copy-out-t35 : tie.Need-element-copy-out-t35
+element-copy-out-t35 c = search needs
 
-element-copy-out-t41 : tie.Need-element-copy-out-t41
-element-copy-out-t41 c = search needs
-
-cast-t42 : tie.Need-cast-t42
-cast-t42 c = omega (arith, small (c .before .before .before .before .before .before .before) .2)
+element-copy-out-t39 : tie.Need-element-copy-out-t39
+element-copy-out-t39 c = search needs
 
 returns-2 : tie.Need-returns-2
 returns-2 c = rw (passed (c .before .before .before .before .before .before .before))
@@ -85,7 +78,6 @@ header-of-spec =
     (tie.spec
     element-copy-out-is-no-header
     element-copy-out-is-no-header-2
-    element-copy-out-is-no-header-3
     is-no-header-requires
     element-copy-out-bad-header
     element-copy-out-bad-header-2
@@ -93,11 +85,10 @@ header-of-spec =
     returns
     element-copy-out-t5
     element-copy-out-t8
-    element-copy-out-t11
-    element-copy-out-t29
-    cast-t30
-    element-copy-out-t33
-    element-copy-out-t37
-    element-copy-out-t41
-    cast-t42
+    element-copy-out-t23
+    element-copy-out-t27
+    cast-t28
+    element-copy-out-t31
+    element-copy-out-t35
+    element-copy-out-t39
     returns-2)

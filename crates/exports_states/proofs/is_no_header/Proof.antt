@@ -8,10 +8,7 @@ returns : tie.Need-returns
 returns c = rw (lt-ltb 1 (c .before .args .begun) (omega arith))
 
 returns-2 : tie.Need-returns-2
-returns-2 c = rw (le-ltb 1 (c .before .before .args .begun) (omega arith), lt-ltb 4294967295 (c .before .before .args .dims) (omega arith))
-
-returns-3 : tie.Need-returns-3
-returns-3 c = rw (le-ltb 1 (c .before .before .args .begun) (omega arith), le-ltb 4294967295 (c .before .before .args .dims) (omega arith))
+returns-2 c = rw (le-ltb 1 (c .before .args .begun) (omega arith))
 
 pub is-no-header-spec : {M : Type 1} → statement M
-is-no-header-spec = tie.close (tie.spec returns returns-2 returns-3)
+is-no-header-spec = tie.close (tie.spec returns returns-2)

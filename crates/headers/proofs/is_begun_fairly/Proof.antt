@@ -24,13 +24,13 @@ abbrev held : tie.Start → Vector
 held s = let a = s .args in vector (a .dims) (part (a .start) (a .len) (a .ai .now)) (part (a .start) (a .len) (a .av .now))
 
 -- from where the tests of the numbers passed back to the first of them, and to the start
-abbrev first : tie.Else5 → tie.Else1
-first c = c .before .before .before .before
+abbrev first : tie.Else4 → tie.Else1
+first c = c .before .before .before
 
 abbrev start : tie.Else1 → tie.Start
 start c = c .before .before .before .before
 
-abbrev begin : tie.Else5 → tie.Start
+abbrev begin : tie.Else4 → tie.Start
 begin c = start (first c)
 
 unfair : (s : tie.Start) → let a = s .args in
@@ -63,9 +63,6 @@ returns-3 c = unfair (start (c .before .before)) (λ f. omega arith)
 
 returns-4 : tie.Need-returns-4
 returns-4 c = unfair (start (c .before .before .before)) (λ f. omega arith)
-
-returns-5 : tie.Need-returns-5
-returns-5 c = unfair (start (c .before .before .before .before)) (λ f. omega arith)
 
 add-end : tie.Need-add-end
 add-end c = let i = inner (begin c) in search needs
@@ -100,8 +97,8 @@ check-requires c κs = search needs
 enum-known-number : tie.Need-enum-known-number
 enum-known-number c = search needs
 
-returns-6 : tie.Need-returns-6
-returns-6 c =
+returns-5 : tie.Need-returns-5
+returns-5 c =
     let k = c .before .before .before in
     let s = begin (k .before .before .before) in
     unfair s (λ f. refused-valid (sym (told k ∙ c .before .number .given .1) ∙ valid (held s) (f .sound)))
@@ -109,8 +106,8 @@ returns-6 c =
 enum-told : tie.Need-enum-told
 enum-told c = search needs
 
-returns-7 : tie.Need-returns-7
-returns-7 c =
+returns-6 : tie.Need-returns-6
+returns-6 c =
     let k = c .before .before in
     let l = k .before .before .before in
     let s = begin l in
@@ -120,7 +117,7 @@ returns-7 c =
       room = omega arith;
       fits = omega arith;
       some = omega arith;
-      most = omega arith;
+      most = omega (arith, s .fits .count .fits);
       sound = sound (held s) (told k ∙ c .enum-told .given .1);
     }))
 
@@ -133,7 +130,6 @@ is-begun-fairly-spec =
     returns-2
     returns-3
     returns-4
-    returns-5
     add-end
     mul-check
     sub-check
@@ -145,6 +141,6 @@ is-begun-fairly-spec =
     part-check-end-2
     check-requires
     enum-known-number
-    returns-6
+    returns-5
     enum-told
-    returns-7)
+    returns-6)

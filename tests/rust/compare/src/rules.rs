@@ -1,7 +1,7 @@
 //! Which answer is owed to a request, given the Rust's: the same one, or another by a departure of docs/DIFFERENCES.md.
-//! Each rule says when the departure applies and what the answer then is, to the letter. Departures 4, 5 and 9 cannot
-//! arise: outputs have room, those of add and sub just as much as they ask for; sums are exact in every order; and counts
-//! are small.
+//! Each rule says when the departure applies and what the answer then is, to the letter. Departures 4 and 5 cannot arise:
+//! outputs have room, those of add and sub just as much as they ask for; and sums are exact in every order. Departure 9 is
+//! no more: averages are the Rust's with any count.
 use crate::paper::{self, Field, Ways};
 use crate::text::{self, Bits, Sparse};
 use base::scalar::bit;

@@ -163,9 +163,22 @@ fn aggregate(name: &str, fields: &[&str]) -> String {
             let (dims, n) = fields[0].split_once(' ').expect("dims and a number");
             capacity(text::number(dims), text::number(n)).to_string()
         }
+        "average" => average(fields),
         "run" => run(fields),
         _ => "no such call".into(),
     }
+}
+
+/// The average of a state that holds a vector, with any count.
+fn average(fields: &[&str]) -> String {
+    let (count, held) = (text::count(fields[0]), Sparse::read(fields[1]));
+    let answer = said(|| {
+        let state = probe::state(count, held.checked()?);
+        Some(text::sparse_shown(probe::average(state)?.as_borrowed()))
+    });
+    // The state ends here.
+    unsafe { reset() };
+    answer
 }
 
 /// The capacity that the Rust's state for n entries has.

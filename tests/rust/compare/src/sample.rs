@@ -15,7 +15,7 @@ const SEED: u64 = 1;
 const DRAWN_FROM: u64 = 120_000;
 
 /// So many cases of each call, short ones and longer ones; and so many more of each departure that it shows.
-const OF_EACH: [usize; 2] = [95, 2];
+const OF_EACH: [usize; 2] = [92, 2];
 const OF_DEPARTURE: [usize; 2] = [22, 1];
 
 /// So many runs of an aggregate, and so many more of each departure.

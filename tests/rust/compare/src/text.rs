@@ -38,6 +38,10 @@ pub fn number(text: &str) -> u32 {
     text.parse().expect("a number of a request")
 }
 
+pub fn count(text: &str) -> u64 {
+    text.parse().expect("a count of a request")
+}
+
 fn float(digits: &str) -> f32 {
     f32::from_bits(u32::from_str_radix(digits, 16).expect("a value's bits"))
 }

@@ -27,6 +27,14 @@ pub mod datatype {
             pub fn average(state: Internal) -> Option<SVectOwned<f32>> {
                 _vectors_svecf32_aggregate_avg_finalfunc(state).map(|v| v.0)
             }
+
+            /// A state that holds a vector, with any count.
+            pub fn state(count: u64, held: SVectBorrowed<'_, f32>) -> Internal {
+                let mut state = SVecf32AggregateAvgSumStype::new_with_capacity(held.dims(), held.len());
+                state.merge_in_place(held);
+                state.count = count;
+                Internal::new(state)
+            }
         }
     }
 }

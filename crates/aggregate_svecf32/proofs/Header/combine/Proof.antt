@@ -106,8 +106,7 @@ part-take-end-2 c = let e = ends-inside (second (c .before .before .before .befo
 take-requires : tie.Need-take-requires
 take-requires c κs =
     let l = c .before .before .before .before .before in
-    let s = second l in
-    record { state = fair (l .before .before); row = cut-sound s; most = s .fair .most }
+    record { state = fair (l .before .before); row = cut-sound (second l) }
 
 same-length-5 : tie.Need-same-length-5
 same-length-5 c = search needs

@@ -1,5 +1,4 @@
 -- `Header::row` meets its contract: where the row and the state pass their tests the state takes the row. Assumes nothing.
-use native.Mathlib.Omega.{arith}
 use mathlib.Core.Path.{_≡_, sym, _∙_}
 use borrow.Author.Needs.{needs}
 use Rattle.refusal.specs.declared.Checked.the-variants.{Valid}
@@ -62,7 +61,7 @@ enum-told-2 c = search needs
 take-requires : tie.Need-take-requires
 take-requires c κs =
     let e = c .before .before in
-    record { state = fair e; row = sound _ (passed (first e)); most = omega arith }
+    record { state = fair e; row = sound _ (passed (first e)) }
 
 same-length-3 : tie.Need-same-length-3
 same-length-3 c = search needs

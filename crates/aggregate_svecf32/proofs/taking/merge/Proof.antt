@@ -1,13 +1,15 @@
 -- `taking::merge` meets its contract: each test refuses as it has to, and where none does the vector is merged in place in the region, and the
 -- header says so. Assumes nothing.
+use Prim.Native.Nat.{_+_}
 use native.Mathlib.Omega.{arith}
-use mathlib.Core.Bool.{true}
+use mathlib.Core.Bool.{true, false}
 use mathlib.Core.Path.{_≡_, sym, _∙_}
 use borrow.Author.Needs.{needs}
-use borrow.Author.Tests.{not-true, not-false}
+use borrow.Author.Tests.{ltb-false, not-true, not-false}
 use Rattle.sparse.specs.Vectors.{Vector, vector, size}
 use Rattle.sparse.proofs.Checks.{size-most}
 use Rattle.regions.specs.Regions.{Pair, pair}
+use Rattle.headers.specs.Headers.{mostRows, tooMany}
 use Rattle.aggregate_svecf32.specs.Calls.{spare}
 use Rattle.aggregate_svecf32.proofs.Consistent.{Inside, Sure, state-sure}
 use Rattle.aggregate_svecf32.proofs.Acting.{acts-refused}
@@ -17,7 +19,7 @@ use Rattle.aggregate_svecf32.proofs.taking.merge.Tie as tie
 
 -- from where the last test passed back to where the others did, and to the start
 abbrev counted : tie.Else3 → tie.Else2
-counted c = c .before .before
+counted c = c .before .before .before
 
 abbrev alike : tie.Else2 → tie.Else1
 alike c = c .before .before
@@ -41,6 +43,10 @@ sure s = state-sure (s .args .h) (lists s) (s .pre .1 .state) (s .pre .0)
 inner : (c : tie.Else3) → let s = begin c in Inside (s .args .h) (lists s)
 inner c = sure (begin c) .inside
 
+-- the counts' sum does not pass the most rows
+few : (c : tie.Else2) → let a = start (alike c) .args in tooMany (a .h .count) (a .more) ≡ false
+few c = sym (c .before .are-too-many .ensures) ∙ c .if2 .left
+
 -- it has room, or a place for every entry
 spares : (c : tie.Else3) → let s = begin c in spare (s .args .h) (size (row s)) ≡ true
 spares c = sym (c .before .has-room .ensures) ∙ not-false _ (c .if3 .left)
@@ -50,25 +56,29 @@ returns c =
     let s = c .before .before .before .before .before .before in
     acts-refused _ (merge-differ (s .args .h) (row s) (s .args .more) (c .if1 .taken))
 
-add-count : tie.Need-add-count
-add-count c = let s = start (c .before) in omega (arith, sure s .fair .most, s .pre .1 .most)
+are-too-many-requires : tie.Need-are-too-many-requires
+are-too-many-requires c κs = search needs
 
 returns-2 : tie.Need-returns-2
 returns-2 c =
     let e = c .before .before in
     let s = start e in
-    acts-refused _ (merge-count (s .args .h) (row s) (s .args .more) (e .if1 .left) (c .if2 .taken))
+    acts-refused _ (merge-count (s .args .h) (row s) (s .args .more) (e .if1 .left) (sym (c .before .are-too-many .ensures) ∙ c .if2 .taken))
+
+add-count : tie.Need-add-count
+add-count c =
+    let a = start (alike (c .before)) .args in
+    omega (arith, ltb-false mostRows (a .h .count + a .more) (few (c .before)))
 
 has-room-requires : tie.Need-has-room-requires
-has-room-requires c κs = sure (start (alike c)) .fair .room
+has-room-requires c κs = sure (start (alike (c .before))) .fair .room
 
 add-capacity : tie.Need-add-capacity
 add-capacity c =
-    let s = sure (start (alike (c .before .before .before))) in
-    let m = size-most (s .fair .sound) in
-    let n = s .many in
-    let d = s .fair .sound .high in
-    search needs
+    let s = start (alike (c .before .before .before .before)) in
+    let f = sure s .fair .sound in
+    let g = s .pre .1 .row in
+    omega (arith, sure s .many, size-most f, f .high, size-most g, g .high)
 
 capacity-requires : tie.Need-capacity-requires
 capacity-requires c κs = search needs
@@ -77,11 +87,11 @@ returns-3 : tie.Need-returns-3
 returns-3 c =
     let r = c .before .before .before in
     let none = sym (r .has-room .ensures) ∙ not-true _ (c .before .before .if3 .taken) in
-    let few = r .before in
-    let e = alike few in
+    let k = r .before .before in
+    let e = alike k in
     let s = start e in
     rw (c .capacity .ensures)
-    (acts-refused _ (merge-need (s .args .h) (row s) (s .args .more) (e .if1 .left) (few .if2 .left) none))
+    (acts-refused _ (merge-need (s .args .h) (row s) (s .args .more) (e .if1 .left) (few k) none))
 
 add-end : tie.Need-add-end
 add-end c = let i = inner (c .before) in search needs
@@ -130,10 +140,10 @@ returns-4 : tie.Need-returns-4
 returns-4 c =
     let m = c .before .before .before .before .before in
     let e = m .before .before .before .before in
-    let few = counted e in
+    let k = counted e in
     let s = begin e in
     rw (c .done .ensures)
-    (merge-done (s .args .h) (lists s) (row s) (s .args .more) (s .pre .0) (s .pre .1) (alike few .if1 .left) (few .if2 .left) (spares e)
+    (merge-done (s .args .h) (lists s) (row s) (s .args .more) (s .pre .0) (s .pre .1) (alike k .if1 .left) (few k) (spares e)
     (m .merge-in-place .ensures))
 
 pub merge-spec : {M : Type 1} → statement M
@@ -141,8 +151,9 @@ merge-spec =
     tie.close
     (tie.spec
     returns
-    add-count
+    are-too-many-requires
     returns-2
+    add-count
     has-room-requires
     add-capacity
     capacity-requires

@@ -1,5 +1,6 @@
 //! The cases: first the short ones, all of them; then random ones around every boundary, and damaged copies.
 mod bits;
+mod counts;
 mod damage;
 mod random;
 mod runs;
@@ -11,7 +12,7 @@ use random::Random;
 use std::ops::Bound;
 
 /// The calls of random cases, each as often as its share.
-const SHARES: [(&str, usize); 30] = [
+const SHARES: [(&str, usize); 31] = [
     ("svect check", 6),
     ("svect zero", 1),
     ("svect add", 9),
@@ -41,6 +42,7 @@ const SHARES: [(&str, usize); 30] = [
     ("bit or", 2),
     ("bit xor", 2),
     ("aggregate capacity", 3),
+    ("aggregate average", 23),
     ("aggregate run", 25),
 ];
 
@@ -95,6 +97,7 @@ fn random_case(r: &Random, call: &str) -> String {
     let rest = match (file, name) {
         ("svect", _) => sparse::operands(r, name),
         ("aggregate", "run") => runs::steps(r),
+        ("aggregate", "average") => counts::average(r),
         ("aggregate", _) => runs::capacity(r),
         _ => bits::operands(r, name),
     };

@@ -26,6 +26,7 @@ pub fn all() -> Vec<String> {
     sparse_checks(&mut cases);
     slices(&mut cases);
     zeros_and_capacities(&mut cases);
+    averages(&mut cases);
     runs(&mut cases);
     cases
 }
@@ -165,6 +166,18 @@ fn zeros_and_capacities(cases: &mut Vec<String>) {
     }
     for dims in (0..=40).chain([1000, 1_048_575]) {
         cases.extend((0..=70).map(|n| format!("aggregate capacity | {dims} {n}")));
+    }
+}
+
+/// Every count around the powers of two from which a float has gaps, and at the end.
+fn averages(cases: &mut Vec<String>) {
+    let around = |n: u64| (n - 20..=n).chain((1..=20).filter_map(move |k| n.checked_add(k)));
+    let starts = [1 << 24, 1 << 25, 1 << 26, 1 << 53, 1 << 63, u64::MAX];
+    for count in (1..=20).chain(starts.into_iter().flat_map(around)) {
+        for x in [1.0, -3.0, 16_777_215.0, f32::MAX, f32::MIN_POSITIVE, f32::from_bits(1), f32::INFINITY, f32::NAN] {
+            let held = Sparse { dims: 8, indexes: vec![3], values: vec![x] };
+            cases.push(format!("aggregate average | {count} | {}", held.request()));
+        }
     }
 }
 

@@ -1,0 +1,2 @@
+-- What it is to be nearest.
+pub mod Nearest
