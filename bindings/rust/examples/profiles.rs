@@ -127,7 +127,7 @@ fn main() -> Result<ExitCode, Refusal> {
             seen.push((total.count(), sum, average));
         }
     }
-    let same = seen.iter().all(|one| *one == seen[0] && (one.0, &one.1) == (ROWS, &expected));
+    let same = seen.iter().all(|one| *one == seen[0] && (one.0, &one.1) == (ROWS.into(), &expected));
     println!("{}", if same { "the same bits each time" } else { "NOT the same bits each time" });
     Ok(if same { ExitCode::SUCCESS } else { ExitCode::FAILURE })
 }

@@ -119,15 +119,15 @@ fn null_for_no_entries() {
     }
 }
 
-/// The state {1: 1.0} of dims 8 in eight places, and one without rows, each with a number that no header has.
+/// The state {1: 1.0} of dims 8 in eight places, and one without rows, each with a number that no header has; or a count
+/// that a header without rows does not have, or one with rows.
 fn headers() -> Vec<[u64; 7]> {
     let (begun, fresh) = ([0, 8, 1, 8, 1, 8, 1], [0, 8, 0, 0, 0, 0, 0]);
     let wide = 1 << 32;
     let changes = [
         (begun, 2, 2),
         (begun, 3, 8 + wide),
-        (begun, 6, 1 + wide),
-        (begun, 6, u64::MAX),
+        (begun, 6, 0),
         (fresh, 2, 2),
         (fresh, 2, u64::MAX),
         (fresh, 3, wide),

@@ -1,7 +1,7 @@
 //! Answers the cases of `crates/test_rust` by the safe types.
 
 use crate::read::{bounds, fields, float, numbers, vector};
-use oxlanyard::{Aggregate, BVectBorrowed, BVectOwned, Refusal, SVectBorrowed, SVectOwned};
+use oxlanyard::{capacity, Aggregate, BVectBorrowed, BVectOwned, Header, Refusal, SVectBorrowed, SVectOwned, State};
 use std::cmp::Ordering;
 
 type Answer = Result<String, Refusal>;
@@ -126,6 +126,19 @@ fn run(steps: &[&str]) -> String {
     line.join(" | ")
 }
 
+/// The average of a state that holds a vector, with a count.
+fn average(count: &str, held: &str) -> Answer {
+    let held = sparse(held)?;
+    let (indexes, values) = (held.indexes(), held.values());
+    let room = capacity(held.dims(), indexes.len());
+    let (mut i, mut v) = (indexes.to_vec(), values.to_vec());
+    i.resize(room, 0);
+    v.resize(room, 0.0);
+    let (room, len, dims) = (room as u64, indexes.len() as u64, held.as_borrowed().dims() as u64);
+    let header = Header([0, room, 1, dims, len, room, count.parse().expect("a count")]);
+    Ok(sparse_shown(State::resume(header, &mut i, &mut v)?.average()?.as_borrowed()))
+}
+
 fn refused(refusal: Refusal) -> String {
     format!("refused {} {}", refusal.reason.number(), refusal.place)
 }
@@ -138,9 +151,10 @@ pub fn answer(case: &str) -> String {
         ("svect", _) => svect(call, &f[1..]).unwrap_or_else(refused),
         ("bvect", _) => bvect(call, &f[1..]).unwrap_or_else(refused),
         ("aggregate", "run") => run(&f[1..]),
+        ("aggregate", "average") => average(f[1], f[2]).unwrap_or_else(refused),
         ("aggregate", _) => {
             let given = numbers(f[1]);
-            oxlanyard::capacity(given[0] as u32, given[1] as usize).to_string()
+            capacity(given[0] as u32, given[1] as usize).to_string()
         }
         _ => panic!("there is no file {file}"),
     };
