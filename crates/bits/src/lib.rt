@@ -1,5 +1,7 @@
 // Bit vectors as words, and their checks. Bit i of a vector is bit i % 64 of word i / 64.
 
+#![tactic(auto)]
+
 ghost use Rattle.std.specs.Prelude.{◌≡◌};
 ghost use Rattle.refusal.specs.Answers.{Checks};
 ghost use Rattle.bits.specs.Bits.{words_for};

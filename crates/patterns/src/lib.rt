@@ -1,6 +1,8 @@
 // Values and their bits. The language has no NaN of a pattern and no pattern of a NaN, so both are made here:
 // every NaN's bits stand for one value, and its bits are 7fc00000.
 
+#![tactic(auto)]
+
 ghost use Rattle.std.specs.Prelude.{◌≡◌};
 ghost use Rattle.std.specs.Float.{binary32};
 ghost use Rattle.std.specs.Float.Ieee.{of_bits, to_bits};

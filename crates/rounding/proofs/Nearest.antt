@@ -127,6 +127,8 @@ module _ (n : ℕ) (l : n < 2 ^ 64) where
 -- ---- the laws
 
 is_number : (x : Float) (v : ℕ) → HasValue x false v (2 ^ 149) → T (finite x)
+is_number lib.Ieee.nan v h = elim h [ ]
+is_number (lib.Ieee.inf _) v h = elim h [ ]
 is_number (fin s m e) v h = tt
 
 zero_bits : to_bits binary32 (fin false 0 (pos 0)) % 2 ≡ 0
@@ -135,6 +137,8 @@ zero_bits = refl
 
 -- what is r * 2 ^ 149 of the smallest is r
 whole : (x : Float) (r : ℕ) → HasValue x false (r * 2 ^ 149) (2 ^ 149) → HasValue x false r 1
+whole lib.Ieee.nan r h = elim h [ ]
+whole (lib.Ieee.inf _) r h = elim h [ ]
 whole (fin s m e) r h = (
   h.0,
   eq_of_mul-eq-mul_right (2 ^ 149) (pow_pos 149) (m * up e * 1) (r * down e) (rw mul-one (h.1 ∙ mul_right_comm r (2 ^ 149) (down e))),

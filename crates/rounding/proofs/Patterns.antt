@@ -19,6 +19,8 @@ pattern n = let k = size n - 24 in k * 8388608 + n / 2 ^ k
 
 bits_of : (x : Float) (n : ℕ) → HasValue x false n (2 ^ 149) → to_bits binary32 x ≡ pattern n
 unfolding to_bits
+bits_of lib.Ieee.nan n v = elim v [ ]
+bits_of (lib.Ieee.inf _) n v = elim v [ ]
 bits_of (fin s m e) n v = rw (v.0, v.1, mul-div_cancel n (down_pos e)) (omega arith)
 
 module _ (q k : ℕ) (least : 8388608 ≤ q) (most : q ≤ 16777216) where

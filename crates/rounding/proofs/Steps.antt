@@ -21,6 +21,8 @@ use Rattle.rounding.proofs.Multiples.{apart, closest_le}
 
 -- a float that is v of the smallest
 steps_value : (x : Float) (s : Bool) (v : ℕ) → HasValue x s v (2 ^ 149) → steps x ≡ signed s v
+steps_value lib.Ieee.nan s v h = elim h [ ]
+steps_value (inf _) s v h = elim h [ ]
 steps_value (fin t m e) s v h = rw (h.0, h.1, mul-div_cancel v (down_pos e))
 
 -- how far it is from w of them
@@ -46,6 +48,8 @@ pub record Counted (y : Float) : Type 0 where
 
 pub counted : (y : Float) → T (fits binary32 y) → T (finite y) → Counted y
 unfolding units
+counted lib.Ieee.nan t p = elim p [ ]
+counted (inf _) t p = elim p [ ]
 counted (fin s m e) t p =
     let n = m * up e * 2 ^ 149 in
     let k = size (n / down e) - 24 in

@@ -1,6 +1,8 @@
 // The f32 nearest to a whole number. The language casts a whole number only where nothing is lost, so what is
 // lost is worked out here. Parts of other calls, not calls that a user makes.
 
+#![tactic(auto)]
+
 ghost use Rattle.std.specs.Prelude.{false, ◌≡◌, ◌≤◌, ◌^◌, pos};
 ghost use Rattle.std.specs.Float.{binary32};
 ghost use Rattle.std.specs.Float.Ieee.{units, of_int};

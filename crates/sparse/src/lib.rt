@@ -1,6 +1,8 @@
 // What a sparse vector is: its dims, its indexes and its values; a place that no index names is empty.
 // Here are its checks.
 
+#![tactic(auto)]
+
 ghost use Rattle.std.specs.Prelude.{◌≡◌, true, false, length};
 ghost use Rattle.places.specs.Below.{any_below};
 ghost use Rattle.places.specs.Search.{first_from};

@@ -2,6 +2,8 @@
 // place on and answers the place after what it wrote. They are parts of `session`, and no calls that a user
 // makes: that there is room is required.
 
+#![tactic(auto)]
+
 ghost use Rattle.std.specs.Prelude.{◌≡◌, [], ◌∷◌, ◌+◌, ◌*◌, ◌≤◌, ◌<◌, length};
 ghost use Rattle.texts.specs.Texts.{glyph as Texts·glyph, spelled, decimal as Texts·decimal};
 ghost use Rattle.texts.specs.Texts.{entry_text, entries_text, vector_text, refused_text, bad_text};

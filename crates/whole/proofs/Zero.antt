@@ -30,6 +30,10 @@ same_bits f s m e n d h = rw h
 -- so floats of one format with one sign and one size are one
 pub one_of_value : (f : Format) (x y : Float) (s : Bool) (a c : ℕ) → 0 < c → T (fits f x) → T (fits f y)
     → HasValue x s a c → HasValue y s a c → x ≡ y
+one_of_value f nan y s a c C p q v w = elim v [ ]
+one_of_value f (inf _) y s a c C p q v w = elim v [ ]
+one_of_value f (fin t m e) nan s a c C p q v w = elim w [ ]
+one_of_value f (fin t m e) (inf _) s a c C p q v w = elim w [ ]
 one_of_value f (fin t m e) (fin u n d) s a c C p q v w =
     let same : m * up e * down d ≡ n * up d * down e =
     le_antisymm (transfer (m * up e) (n * up d) (down e) (down d) a a c c C C v.1 w.1 (le_of_eq refl))

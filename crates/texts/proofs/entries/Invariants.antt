@@ -1,0 +1,14 @@
+-- `texts::entries` meets its contract. The loop's invariant: the first i entries are written. The measure is how many are left.
+-- Assumes nothing.
+use Prim.Native.Nat.{◌-◌, ◌≤◌}
+use mathlib.Core.Path.{◌≡◌}
+use lib.ListN.{length, take}
+use Rattle.texts.specs.Texts.{entries_text}
+use Rattle.texts.specs.Puts.{Puts}
+use Rattle.texts.proofs.entries.Given as goal
+
+abbrev pub invariant-loop-i : goal.invariant-loop-i
+invariant-loop-i l = (l.i ≤ length l.indexes) × (length l.out ≡ length l.initial.out) × Puts (entries_text (take l.i l.indexes) (take l.i l.bits)) l.at l.initial.out l.to l.out
+
+abbrev pub decreases-loop-i : goal.decreases-loop-i
+decreases-loop-i l = length l.indexes - l.i
