@@ -1,6 +1,8 @@
 // Counts of the ones of bit vectors, and word-wise combinations. Each public call tests the vectors it
 // is given, the left one first. What a bit vector is stands in `bits`, whose calls are passed on here.
 
+#![tactic(auto)]
+
 ghost use Rattle.bit_words.specs.declared.Op.TheVariants.{And, Or, Xor};
 ghost use Rattle.bit.specs.Calls.{SumsOne, Sums, SumsBoth, Combines};
 

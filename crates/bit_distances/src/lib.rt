@@ -1,5 +1,7 @@
 // Distances of bit vectors. Every call tests the vectors it is given, the left one first.
 
+#![tactic(auto)]
+
 ghost use Rattle.bit_distances.specs.Calls.{Dots, Hammings, Jaccards, JaccardsOrNan, JaccardsIf};
 
 use refusal::Distance;

@@ -1,5 +1,7 @@
 // Order and equality of two lists of as many words. Parts of the calls of `bvect`, not for users.
 
+#![tactic(auto)]
+
 ghost use Rattle.std.specs.Prelude.{◌≡◌};
 ghost use Rattle.bits.specs.Words.{Alike};
 ghost use Rattle.bit_orders.specs.Orders.{same_words};

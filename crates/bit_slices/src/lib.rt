@@ -1,5 +1,7 @@
 // Loops that make words: clear ones, and those of a slice. Parts of the calls of `bvect`, not for users.
 
+#![tactic(auto)]
+
 ghost use Rattle.std.specs.Prelude.{◌≡◌, ◌++◌, ◌≤◌, ◌<◌, ◌*◌, ◌+◌, ◌/◌, ◌%◌, ◌^◌, length, drop};
 ghost use Rattle.places.specs.Below.{list_below};
 ghost use Rattle.bits.specs.Bits.{bit_at, cut, word_from};

@@ -1,6 +1,8 @@
 // Lists of words put together by AND, OR or XOR: their ones, and the words themselves. Parts of the
 // calls of the crates above, not for users.
 
+#![tactic(auto)]
+
 ghost use Rattle.std.specs.Prelude.{◌≡◌, ◌++◌, ◌≤◌, length, drop};
 ghost use Rattle.std.specs.Int.Count.{ones};
 ghost use Rattle.bits.specs.Words.{Alike};
@@ -8,7 +10,7 @@ ghost use Rattle.bit_words.specs.Ops.{join};
 ghost use Rattle.bit_words.specs.Words.{ones_of, joins};
 
 // Two bits, or two words bit by bit, put together.
-#[derive(Drop)]
+#[derive(Clone, Copy)]
 pub enum Op {
     And,
     Or,

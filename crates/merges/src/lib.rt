@@ -13,7 +13,7 @@ use refusal::{Checked, Merged};
 use walks::Way;
 
 // How two places are put together.
-#[derive(Drop)]
+#[derive(Clone, Copy)]
 pub enum Op {
     Add,
     Sub,

@@ -1,18 +1,18 @@
 // What the loops over sparse vectors share: one turn of a walk over two, one store, and a search by halving.
 
+#![tactic(auto)]
+
+ghost use Rattle.std.specs.Prelude.{◌≡◌, ◌+◌, ◌≤◌, ◌<◌, min, cond, ltb, eqb, length, get_or};
+ghost use Rattle.std.specs.Float.{nan};
+ghost use Rattle.sparse.specs.Cells.{keep};
+ghost use Rattle.sparse.specs.Sound.{Rising, Split};
+ghost use Rattle.sparse.specs.declared.Cell.TheVariants.{Empty, Full};
+ghost use Rattle.walks.specs.Walk.{turn, Standing, Turned, Put};
+
 use sparse::Cell;
-ghost use mathlib.Core.Path.{_≡_};
-ghost use Prim.Native.Nat.{_+_, _≤_, _<_, min};
-ghost use mathlib.Core.Bool.{cond};
-ghost use lib.Dec.{ltb, eqb};
-ghost use lib.Ieee.{nan};
-ghost use lib.ListN.{length, getD};
-ghost use Rattle·sparse.specs.Cells.{keep};
-ghost use Rattle·sparse.specs.Sound.{Rising, Split};
-ghost use Rattle·sparse.specs.declared.Cell.the-variants.{Empty, Full};
-ghost use Rattle·walks·specs.specs.Walk.{turn, Standing, Turned, Put};
 
 // One turn of a walk over two vectors: the next place, what each holds there, and their next entries.
+#[derive(Drop)]
 pub struct Turn {
     pub place: u32,
     pub x: Cell,
@@ -23,8 +23,8 @@ pub struct Turn {
 
 // The turn to a place that only the left vector has, only the right one, or both.
 fn left_turn(place: u32, v: f32, p: usize, q: usize) -> Turn
-    requires { ⌜ p < 1048575 ⌝ }
-    ensures { λ r. ⌜ r ≡ turn place (Full v) Empty (p + 1) q ⌝ }
+    requires { p < 1048575 }
+    ensures { result ≡ turn place (Full v) Empty (p + 1) q }
 {
     Turn {
         place: place,
@@ -36,8 +36,8 @@ fn left_turn(place: u32, v: f32, p: usize, q: usize) -> Turn
 }
 
 fn right_turn(place: u32, w: f32, p: usize, q: usize) -> Turn
-    requires { ⌜ q < 1048575 ⌝ }
-    ensures { λ r. ⌜ r ≡ turn place Empty (Full w) p (q + 1) ⌝ }
+    requires { q < 1048575 }
+    ensures { result ≡ turn place Empty (Full w) p (q + 1) }
 {
     Turn {
         place: place,
@@ -49,8 +49,8 @@ fn right_turn(place: u32, w: f32, p: usize, q: usize) -> Turn
 }
 
 fn both_turn(place: u32, v: f32, w: f32, p: usize, q: usize) -> Turn
-    requires { ⌜ (p < 1048575) × (q < 1048575) ⌝ }
-    ensures { λ r. ⌜ r ≡ turn place (Full v) (Full w) (p + 1) (q + 1) ⌝ }
+    requires { (p < 1048575) × (q < 1048575) }
+    ensures { result ≡ turn place (Full v) (Full w) (p + 1) (q + 1) }
 {
     Turn {
         place: place,
@@ -64,8 +64,8 @@ fn both_turn(place: u32, v: f32, w: f32, p: usize, q: usize) -> Turn
 // The next turn of a walk that has come to the entries p and q and has one left. For the loops of the
 // crates above, not for users.
 pub fn one_turn(ia: &[u32], va: &[f32], p: usize, ib: &[u32], vb: &[f32], q: usize) -> Turn
-    requires { ⌜ Standing (now ia) (now va) p (now ib) (now vb) q ⌝ }
-    ensures { λ r. ⌜ Turned (now (ia .entry)) (now (va .entry)) p (now (ib .entry)) (now (vb .entry)) q r ⌝ }
+    requires { Standing ia.now va.now p ib.now vb.now q }
+    ensures { Turned ia.now va.now p ib.now vb.now q result }
 {
     if ia.len() <= p {
         return right_turn(ib[q], vb[q], p, q);
@@ -86,7 +86,7 @@ pub fn one_turn(ia: &[u32], va: &[f32], p: usize, ib: &[u32], vb: &[f32], q: usi
 
 // Nothing for a zero of either sign, and else the value.
 pub fn kept(v: f32) -> Cell
-    ensures { λ r. ⌜ r ≡ keep v ⌝ }
+    ensures { result ≡ keep v }
 {
     if v == 0.0 { Cell::Empty } else { Cell::Full(v) }
 }
@@ -94,8 +94,8 @@ pub fn kept(v: f32) -> Cell
 // Stores what stands at a place as the entry n, if it is full, and returns the next entry. For the
 // loops of the crates above, not for users.
 pub fn put(oi: &mut [u32], ov: &mut [f32], n: usize, place: u32, z: Cell) -> usize
-    requires { ⌜ (n < length (now oi)) × (n < length (now ov)) ⌝ }
-    ensures { λ r. ⌜ Put z place n (now (oi .entry)) (now (ov .entry)) r (now (oi .exit)) (now (ov .exit)) ⌝ }
+    requires { (n < length oi.old) × (n < length ov.old) }
+    ensures { Put z place n oi.old ov.old result oi.new ov.new }
 {
     if let Cell::Full(v) = z {
         oi[n] = place;
@@ -107,8 +107,8 @@ pub fn put(oi: &mut [u32], ov: &mut [f32], n: usize, place: u32, z: Cell) -> usi
 
 // How many of the rising indexes are below `place`, found by halving. For the crates above, not for users.
 pub fn partition_point(indexes: &[u32], place: u32) -> usize
-    requires { ⌜ Rising (now indexes) ⌝ }
-    ensures { λ r. ⌜ Split (now (indexes .entry)) r place ⌝ }
+    requires { Rising indexes.now }
+    ensures { Split indexes.now result place }
 {
     let mut low: usize = 0;
     let mut high: usize = indexes.len();
@@ -126,8 +126,8 @@ pub fn partition_point(indexes: &[u32], place: u32) -> usize
 // The same, found in doubling steps first and then by halving, so that a near place is found soon. For the crates
 // above, not for users.
 pub fn near_point(indexes: &[u32], place: u32) -> usize
-    requires { ⌜ Rising (now indexes) ⌝ }
-    ensures { λ r. ⌜ Split (now (indexes .entry)) r place ⌝ }
+    requires { Rising indexes.now }
+    ensures { Split indexes.now result place }
 {
     let mut low: usize = 0;
     let mut step: usize = 1;
@@ -144,7 +144,7 @@ pub fn near_point(indexes: &[u32], place: u32) -> usize
 
 // The smaller of two indexes.
 pub fn lower(i: u32, j: u32) -> u32
-    ensures { λ r. ⌜ r ≡ cond (ltb i j) i j ⌝ }
+    ensures { result ≡ cond (ltb i j) i j }
 {
     if i < j { i } else { j }
 }
@@ -152,7 +152,7 @@ pub fn lower(i: u32, j: u32) -> u32
 // The value at the smaller of two indexes: x or y, or s where both are the same. It is read at one of four places: a
 // choice between floats would be a branch on x86-64.
 pub fn value_at(i: u32, j: u32, x: f32, y: f32, s: f32) -> f32
-    ensures { λ r. ⌜ r ≡ cond (eqb i j) s (cond (ltb i j) x y) ⌝ }
+    ensures { result ≡ cond (eqb i j) s (cond (ltb i j) x y) }
 {
     let w = [s, x, y, s];
     let k = (i <= j) as usize + 2 * (j <= i) as usize;
@@ -161,8 +161,8 @@ pub fn value_at(i: u32, j: u32, x: f32, y: f32, s: f32) -> f32
 
 // The entry p of x, or the entry q of y: one address is chosen, and read.
 pub fn pick(left: bool, x: &[f32], p: usize, y: &[f32], q: usize) -> f32
-    requires { ⌜ (p < length (now x)) × (q < length (now y)) ⌝ }
-    ensures { λ r. ⌜ r ≡ cond left (getD (now (x .entry)) p nan) (getD (now (y .entry)) q nan) ⌝ }
+    requires { (p < length x.now) × (q < length y.now) }
+    ensures { result ≡ cond left (get_or x.now p nan) (get_or y.now q nan) }
 {
     let v = if left { &x[p] } else { &y[q] };
     *v
@@ -170,6 +170,7 @@ pub fn pick(left: bool, x: &[f32], p: usize, y: &[f32], q: usize) -> f32
 
 // How the next turns of a walk over two vectors are best taken. With branches on which side is next, if that can be
 // foreseen, since one side has nearly all entries; without, if it cannot; or with one branch on whether the sides meet.
+#[derive(Drop)]
 pub enum Way {
     Plain,
     Quick,
@@ -179,7 +180,7 @@ pub enum Way {
 // The way to go on after so many turns that passed so many entries of either side. Turns that meet pass two. Any answer
 // is right, and one is fast.
 pub fn way_on(turns: usize, left: usize, right: usize) -> Way
-    requires { ⌜ (turns ≤ 2097150) × (left ≤ 1048575) × (right ≤ 1048575) ⌝ }
+    requires { (turns ≤ 2097150) × (left ≤ 1048575) × (right ≤ 1048575) }
 {
     let few = turns / 5;
     if left < few {
@@ -196,14 +197,14 @@ pub fn way_on(turns: usize, left: usize, right: usize) -> Way
 
 // The smaller of two lengths.
 pub fn smaller(a: usize, b: usize) -> usize
-    ensures { λ r. ⌜ r ≡ min a b ⌝ }
+    ensures { result ≡ min a b }
 {
     if a <= b { a } else { b }
 }
 
 // How many turns are taken by one way before it is looked how to go on, where the sides have so many entries left.
 pub fn run_length(way: Way, left: usize, right: usize) -> usize
-    ensures { λ r. ⌜ (r ≤ left) × (r ≤ right) × (0 < left → 0 < right → 0 < r) ⌝ }
+    ensures { (result ≤ left) × (result ≤ right) × (0 < left → 0 < right → 0 < result) }
 {
     let rest = smaller(left, right);
     if let Way::Plain = way {

@@ -1,0 +1,7 @@
+-- `bit_distances::operator_dot` meets its contract: a count of bits is a float exactly, and is negated. Assumes nothing.
+use Rattle.bit_words.specs.declared.Op.TheVariants.{And}
+use Rattle.bit_distances.proofs.Counts.{counted_float}
+use Rattle.bit_distances.proofs.operator_dot.Goals as goal
+
+pub int_to_float-result : goal.int_to_float-result
+int_to_float-result c = counted_float _ _ _ _ And c.sum_of_and.ensures c.in-Ones.is

@@ -1,0 +1,11 @@
+use native.Mathlib.Omega.{arith}
+use Prim.Native.Nat.{◌-◌}
+use mathlib.Core.Path.{refl}
+use Rattle.places.proofs.Below.{wrote_none, wrote_more}
+use Rattle.bit_slices.proofs.clear.Goals as goal
+
+pub loop-i-init : goal.loop-i-init
+loop-i-init c = (omega arith, wrote_none)
+
+pub loop-i-preserved : goal.loop-i-preserved
+loop-i-preserved c = (omega arith, wrote_more c.loop-i.invariant.1 (omega arith) refl)
