@@ -1,6 +1,8 @@
 // Bit vectors: a bit vector is its dims and its words. Every call tests the vectors it is given, the
 // left one first; a refusal leaves a lent output as it was. The distances are passed on.
 
+#![tactic(auto)]
+
 ghost use Rattle.refusal.specs.Answers.{Checks};
 ghost use Rattle.bits.specs.Calls.{checked_of};
 ghost use Rattle.bit_words.specs.declared.Op.TheVariants.{And, Or, Xor};

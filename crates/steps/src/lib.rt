@@ -2,6 +2,8 @@
 // turn can be taken in several ways, with a branch on which side is next or without; all promise the same.
 // For the loops of the crates above, not for users.
 
+#![tactic(auto)]
+
 ghost use Rattle.std.specs.Prelude.{◌≡◌, ◌<◌, length};
 ghost use Rattle.steps.specs.Places.{added, subtracted, multiplied};
 ghost use Rattle.steps.specs.Turns.{sum_of, alone_of, met_of, Steady, Stores, Stepped};

@@ -29,7 +29,7 @@ words c =
     joins_words c.args.op (pair c) (λ j. (c.type_inv.a j).fits) (λ j. (c.type_inv.b j).fits)
 
 pub returns-then-out-n : goal.returns-then-out-n
-returns-then-out-n c = let a = (goal.at.returns-then-out-n c).In_default.args in
+returns-then-out-n c = let a = c.args in
     let long = (pair (goal.at.returns-then-out-n c).In_default).left.long in
     let small = lt-ltb (length a.out.now) (words_for a.dims_a) (omega (arith, long)) in
     refused_writes _ _ (rw (passed (goal.at.returns-then-out-n c).In_default, small, long))
