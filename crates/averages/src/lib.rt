@@ -1,6 +1,8 @@
 // The average of a vector: each value divided by a count. A part of the aggregate, not a call that a user
 // makes.
 
+#![tactic(auto)]
+
 ghost use Rattle.std.specs.Prelude.{◌+◌, ◌≤◌, length};
 ghost use Rattle.sparse.specs.Vectors.{vector};
 ghost use Rattle.averages.specs.Averages.{shared};

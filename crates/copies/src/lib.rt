@@ -1,6 +1,8 @@
 // Copies of a state's entries that come before the next entry of a row, to the front of the room. For the merge in place,
 // not for users.
 
+#![tactic(auto)]
+
 ghost use Rattle.std.specs.Prelude.{◌≡◌, ◌+◌, ◌≤◌, ◌<◌, length};
 ghost use Rattle.std.specs.Float.{nan};
 ghost use Rattle.sparse.specs.Sound.{Rising};

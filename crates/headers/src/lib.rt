@@ -1,5 +1,7 @@
 // The tests of a header's numbers. Parts of the aggregate, not calls that a user makes.
 
+#![tactic(auto)]
+
 ghost use Rattle.std.specs.Prelude.{true, ◌≡◌, ◌≤◌};
 ghost use Rattle.sparse.specs.Vectors.{vector};
 ghost use Rattle.regions.specs.Regions.{pair, part, inside};

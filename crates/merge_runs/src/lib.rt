@@ -2,6 +2,8 @@
 // its own for each way to take a turn, without an end of a side tested inside, is fast. For the crates
 // above, not for users.
 
+#![tactic(auto)]
+
 ghost use Rattle.std.specs.Prelude.{◌+◌, ◌-◌, ◌≤◌, ◌<◌, max, length};
 ghost use Rattle.steps.specs.Turns.{sum_of};
 ghost use Rattle.merge_runs.specs.Runs.{Running, Ran};

@@ -1,6 +1,8 @@
 // Regions of a lent pair of lists, in which the states of an aggregate live: how large one has to be,
 // whether it lies inside its lists, and how entries are copied from one to another.
 
+#![tactic(auto)]
+
 ghost use Rattle.std.specs.Prelude.{◌≡◌, ◌++◌, ◌+◌, ◌≤◌, leb, length, drop};
 ghost use Rattle.regions.specs.Capacity.{capacity_for};
 ghost use Rattle.regions.specs.Regions.{pair, within};

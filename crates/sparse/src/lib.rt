@@ -13,7 +13,7 @@ ghost use Rattle.sparse.specs.Calls.{falls, too_high, zero_at, checked_of, each_
 use refusal::Checked;
 
 // What stands at a place.
-#[derive(Drop)]
+#[derive(Clone, Copy)]
 pub enum Cell {
     Empty,
     Full(f32),

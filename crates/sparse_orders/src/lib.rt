@@ -1,5 +1,7 @@
 // Equality and order of sparse vectors.
 
+#![tactic(auto)]
+
 mod entries;
 
 ghost use Rattle.std.specs.Prelude.{◌≡◌, length};

@@ -1,5 +1,7 @@
 // Slices of sparse vectors: the places between two bounds, written to lent lists.
 
+#![tactic(auto)]
+
 ghost use Rattle.std.specs.Prelude.{◌≡◌, ◌++◌, ◌+◌, ◌-◌, ◌≤◌, length, get_or, drop};
 ghost use Rattle.std.specs.Float.{nan};
 ghost use Rattle.places.specs.Below.{list_below};

@@ -2,6 +2,8 @@
 // many at once. All promise the same, a chain of turns (crates/strides/specs), so the merge may choose between them.
 // For the crates above, not for users.
 
+#![tactic(auto)]
+
 ghost use Rattle.std.specs.Prelude.{false, ◌≡◌, ◌≤◌, length, get_or};
 ghost use Rattle.std.specs.Float.{nan, binary32};
 ghost use Rattle.std.specs.Float.Ieee.{add};

@@ -1,6 +1,8 @@
 // What a place adds to a sum over two sparse vectors: a product, a squared difference, or what three sums take of it. For the loops of
 // the crates above, not for users.
 
+#![tactic(auto)]
+
 ghost use Rattle.std.specs.Prelude.{◌<◌, cond, ◌≡◌, length, get_or};
 ghost use Rattle.std.specs.Float.{nan};
 ghost use Rattle.sparse.specs.declared.Cell.TheVariants.{Empty, Full};
@@ -11,7 +13,7 @@ ghost use Rattle.sums.specs.Loops.{next_of, Added};
 use sparse::Cell;
 
 // What is added up: products of common entries, or squared differences.
-#[derive(Drop)]
+#[derive(Clone, Copy)]
 pub enum Kind {
     Product,
     Difference,

@@ -1,6 +1,8 @@
 // Runs of three sums over two sparse vectors: so many turns with one kind of turn, where both sides have as many entries left. For the
 // crate above, not for users.
 
+#![tactic(auto)]
+
 ghost use Rattle.sums.specs.Sums.{three_step};
 ghost use Rattle.sums.specs.Loops.{Running, Ran};
 

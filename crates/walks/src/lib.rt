@@ -170,7 +170,7 @@ pub fn pick(left: bool, x: &[f32], p: usize, y: &[f32], q: usize) -> f32
 
 // How the next turns of a walk over two vectors are best taken. With branches on which side is next, if that can be
 // foreseen, since one side has nearly all entries; without, if it cannot; or with one branch on whether the sides meet.
-#[derive(Drop)]
+#[derive(Clone, Copy)]
 pub enum Way {
     Plain,
     Quick,

@@ -1,0 +1,7 @@
+-- `merge_runs::any_run` meets its contract: a turn, and the turns of a run. Assumes nothing.
+use Rattle.merge_runs.proofs.Loops.{ran_then}
+use Rattle.merge_runs.proofs.any_run.Goals as goal
+
+pub returns-clause-ran : goal.returns-clause-ran
+returns-clause-ran c = let g = c.run-r.ensures in
+    ran_then c.requires c.met_step-s.ensures g
