@@ -1,5 +1,7 @@
 // Sums over two sparse vectors: dot, L2, and three sums of one walk. Each call tests both vectors.
 
+#![tactic(auto)]
+
 ghost use Rattle.std.specs.Prelude.{◌≡◌};
 ghost use Rattle.sparse.specs.Vectors.{vector};
 ghost use Rattle.sums.specs.Sums.{sum_of, three_of};

@@ -3,6 +3,8 @@
 // the row, as in an addition, writes what they give to the front. So no entry is written over before it
 // is read; and the entries below the row's first index are not touched.
 
+#![tactic(auto)]
+
 ghost use Rattle.std.specs.Prelude.{◌≡◌, ◌+◌, ◌≤◌, length, get_or, take};
 ghost use Rattle.sparse.specs.Vectors.{vector};
 ghost use Rattle.merges.specs.Algebra.{joins};

@@ -1,6 +1,8 @@
 // The sum, the difference and the product of two sparse vectors, written to a lent pair of lists. Each
 // call tests both vectors and the room, and a refusal leaves the lists as they were.
 
+#![tactic(auto)]
+
 ghost use Rattle.std.specs.Prelude.{◌≡◌, ◌+◌, ◌≤◌, min, length};
 ghost use Rattle.sparse.specs.Vectors.{vector};
 ghost use Rattle.sparse.specs.Sound.{Rising};
