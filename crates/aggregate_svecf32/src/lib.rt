@@ -2,6 +2,8 @@
 // anywhere in a lent pair of lists, and its header goes in by value and comes back in the answer. Every
 // call tests all it is given; a refusal hands back the header and leaves the lent lists as they were.
 
+#![tactic(auto)]
+
 mod moving;
 mod states;
 mod taking;
@@ -19,7 +21,7 @@ use refusal::{Checked, Written};
 
 // A state: the region it owns of the lent lists, from `start` for `length`; and, if it has begun, the
 // dims, the number of entries in front of its region, how many it can hold, and how many rows came in.
-#[derive(Drop)]
+#[derive(Clone, Copy)]
 pub struct Header {
     pub start: usize,
     pub length: usize,

@@ -5,7 +5,7 @@
 ghost use Rattle.std.specs.Prelude.{◌++◌, map, ◌≡◌, ◌≤◌, length, drop};
 ghost use Rattle.std.specs.Float.{binary32};
 ghost use Rattle.std.specs.Float.Ieee.{of_bits};
-ghost use Rattle.bytes.specs.Bytes.{index_of};
+ghost use Rattle.finding.specs.Finding.{index_of};
 ghost use Rattle.merges.specs.declared.Op.TheVariants.{Sub};
 ghost use Rattle.entry_bits.specs.Operands.{operand};
 ghost use Rattle.entry_bits.specs.Operands.{turned as Operands·turned, shown_at, shown as Operands·shown};

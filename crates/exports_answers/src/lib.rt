@@ -2,6 +2,8 @@
 // slots. Each slot for a number is set on every call: 0 beside a refusal, but for its place. A float is left
 // as it was by a refusal. These are parts of the crates above and no calls of their own.
 
+#![tactic(auto)]
+
 ghost use Rattle.std.specs.Prelude.{[], ◌∷◌, ◌≡◌};
 ghost use Rattle.refusal.specs.Answers.{gives, says, checked_says, distance_says, written_says, merged_says, asked_says, order_says};
 ghost use Rattle.folds.specs.Calls.{summed_says};

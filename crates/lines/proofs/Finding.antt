@@ -8,7 +8,7 @@ use lib.Dec.{eqb}
 use lib.ListN.{length, get_or, take, drop, length-append, drop_of_length-le}
 use lib.Seq.{take-nil, take-append_seam, drop-append-add, drop-cons}
 use borrow.Author.Tests.{eq-eqb, ne_eqb, eqb-true}
-use Rattle.bytes.specs.Bytes.{index_of, index_after}
+use Rattle.finding.specs.Finding.{index_of, index_after}
 
 -- ---- cut short
 

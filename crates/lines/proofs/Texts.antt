@@ -8,7 +8,7 @@ use native.Mathlib.Omega.{arith}
 use lib.Dec.{eqb}
 use lib.ListN.{length, get_or, take, drop, length-drop}
 use lib.Seq.{drop-cons, drop-length, take-length, take_all}
-use Rattle.bytes.specs.Bytes.{index_of, slice}
+use Rattle.finding.specs.Finding.{index_of, slice}
 use Rattle.lines.specs.Lines.{same}
 
 pub other_length : (s t : List ℕ) → (length s ≡ length t → ⊥) → same s t ≡ false

@@ -8,7 +8,7 @@ use native.Mathlib.Omega.{arith}
 use lib.Dec.{leb, eqb}
 use lib.ListN.{length, take, drop}
 use lib.Seq.{drop-cons, drop-drop, drop-length}
-use Rattle.bytes.specs.Bytes.{index_of, index_after}
+use Rattle.finding.specs.Finding.{index_of, index_after}
 use Rattle.lines.specs.Numerals.{decimal_of}
 use Rattle.lines.specs.declared.Numeral.TheVariants.{Bad}
 use Rattle.lines.specs.declared.Item.{Item}

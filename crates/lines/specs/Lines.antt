@@ -1,7 +1,7 @@
 -- Document 01, "The program": what a line means, without its newline. "two lines `v dims index:bits ...` (decimal, eight lower-case hex
 -- digits, single spaces) and one line `add`, `sub` or `mul`."
 use Rattle.std.specs.Prelude.{ℕ, suc, ◌≤◌, Bool, true, false, ◌&&◌, cond, List, [], ◌∷◌, ◌++◌, ◌≡◌, leb, eqb, length, take, drop}
-use Rattle.bytes.specs.Bytes.{index_of}
+use Rattle.finding.specs.Finding.{index_of}
 use Rattle.merges.specs.declared.Op.TheVariants.{Add, Sub, Mul}
 use Rattle.lines.specs.Numerals.{decimal_of, bits_of}
 use Rattle.lines.specs.declared.Numeral.{Numeral}

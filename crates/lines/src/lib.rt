@@ -1,6 +1,8 @@
 // Reads the lines of the program `oxlanyard`, each without its newline: a vector's, as
 // `v 8 1:3f800000 4:c0000000`, and the operation's. Any bytes get an answer. Both calls are parts of `session`.
 
+#![tactic(auto)]
+
 ghost use Rattle.std.specs.Prelude.{◌≡◌, ◌≤◌, length, drop};
 ghost use Rattle.lines.specs.Numerals.{digit_of, numeral_of, decimal_of, bits_of};
 ghost use Rattle.lines.specs.Lines.{same, entry_of, line_of, named_of, Reads};
@@ -97,7 +99,7 @@ fn bits(s: &[u8]) -> Numeral
 fn entry(s: &[u8]) -> Item
     ensures { result ≡ entry_of s.now }
 {
-    let colon = bytes::scan::find(s, 0, s.len(), b':');
+    let colon = finding::find(s, 0, s.len(), b':');
     if colon == s.len() {
         return Item::Bad;
     }
@@ -156,7 +158,7 @@ fn entries(s: &[u8], from: usize, dims: u32, oi: &mut [u32], ob: &mut [u32]) -> 
         if n == 128 {
             return Got::Bad;
         }
-        let end = bytes::scan::find(s, at + 1, s.len(), b' ');
+        let end = finding::find(s, at + 1, s.len(), b' ');
         let Item::Of(index, value) = entry(&s[at + 1..end]) else {
             return Got::Bad;
         };
@@ -173,14 +175,14 @@ fn entries(s: &[u8], from: usize, dims: u32, oi: &mut [u32], ob: &mut [u32]) -> 
 pub fn vector(s: &[u8], oi: &mut [u32; 128], ob: &mut [u32; 128]) -> Got
     ensures { Reads (line_of s.now) oi.old ob.old result oi.new ob.new }
 {
-    let first = bytes::scan::find(s, 0, s.len(), b' ');
+    let first = finding::find(s, 0, s.len(), b' ');
     if first == s.len() {
         return Got::Bad;
     }
     if !is_same(&s[..first], b"v") {
         return Got::Bad;
     }
-    let second = bytes::scan::find(s, first + 1, s.len(), b' ');
+    let second = finding::find(s, first + 1, s.len(), b' ');
     let Numeral::Of(dims) = decimal(&s[first + 1..second]) else {
         return Got::Bad;
     };

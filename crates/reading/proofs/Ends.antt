@@ -9,7 +9,7 @@ use lib.ListN.{length, take, drop, length-drop}
 use lib.Seq.{drop-drop}
 use borrow.Author.Tests.{lt-ltb, le-ltb, ltb-true, ltb-false, eqb-true, eqb-false}
 use Rattle.places.proofs.Below.{and_true}
-use Rattle.bytes.specs.Bytes.{index_of}
+use Rattle.finding.specs.Finding.{index_of}
 use Rattle.lines.specs.Lines.{Line, vector_line, bad_line, Reads}
 use Rattle.lines.specs.declared.Got.{Got}
 use Rattle.lines.specs.declared.Got.TheVariants.{Vector as GotVector, Bad as GotBad}

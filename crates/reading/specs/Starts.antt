@@ -1,7 +1,7 @@
 -- Document 01, "The program": what the first line of some bytes is, and what it means. "Each line ends in a newline and has at most 4,096
 -- bytes with it".
 use Rattle.std.specs.Prelude.{ℕ, suc, Bool, ◌&&◌, cond, List, ltb, length, take, drop}
-use Rattle.bytes.specs.Bytes.{index_of}
+use Rattle.finding.specs.Finding.{index_of}
 use Rattle.lines.specs.Lines.{Line, bad_line, line_of, named_of}
 use Rattle.lines.specs.declared.Named.{Named}
 use Rattle.lines.specs.declared.Named.TheVariants.{Bad}

@@ -2,7 +2,7 @@
 // a line starts within the bytes is required.
 
 ghost use Rattle.std.specs.Prelude.{cond, not, ◌≡◌, ◌+◌, ◌≤◌, eqb, length, drop};
-ghost use Rattle.bytes.specs.Bytes.{index_of};
+ghost use Rattle.finding.specs.Finding.{index_of};
 ghost use Rattle.reading.specs.Starts.{has_line, rest, first_vector, first_name};
 ghost use Rattle.reading.specs.Parts.{ReadsFrom};
 
@@ -21,7 +21,7 @@ fn line_end(s: &[u8], from: usize) -> usize
     requires { from ≤ length s.now }
     ensures { result ≡ cond (has_line (drop from s.now)) (from + index_of 10 (drop from s.now)) (length s.now) }
 {
-    let end = bytes::scan::find(s, from, s.len(), b'\n');
+    let end = finding::find(s, from, s.len(), b'\n');
     if end - from < 4096 {
         return end;
     }
@@ -61,6 +61,6 @@ pub fn goes_on(s: &[u8], from: usize) -> bool
     requires { from ≤ length s.now }
     ensures { result ≡ not (eqb (length (rest (drop from s.now))) 0) }
 {
-    let end = bytes::scan::find(s, from, s.len(), b'\n');
+    let end = finding::find(s, from, s.len(), b'\n');
     1 < s.len() - end
 }

@@ -7,7 +7,7 @@ use native.Mathlib.Omega.{arith}
 use lib.ListN.{length, get_or, length-append}
 use lib.Seq.{take-append_seam, drop-append_seam}
 use borrow.Author.Tests.{lt-ltb, le-leb}
-use Rattle.bytes.specs.Bytes.{index_of, index_after}
+use Rattle.finding.specs.Finding.{index_of, index_after}
 use Rattle.lines.specs.Lines.{words, same, vector_line, entry_of, entries_of, line_of}
 use Rattle.lines.specs.Loops.{words_after}
 use Rattle.lines.specs.declared.Numeral.TheVariants.{Of}

@@ -9,7 +9,7 @@ use lib.Dec.{leb, ltb}
 use lib.ListN.{length, get_or, length-append, get_or-append}
 use borrow.Author.Tests.{lt-ltb, le-ltb, le-leb, lt-leb, ltb-true, ltb-false, leb-true, ne_eqb}
 use Rattle.places.proofs.Below.{and_true}
-use Rattle.bytes.specs.Bytes.{index_of}
+use Rattle.finding.specs.Finding.{index_of}
 use Rattle.lines.specs.Numerals.{digit_of, all_digits, value_from, decimal_of, bits_of}
 use Rattle.lines.specs.declared.Numeral.TheVariants.{Of}
 use Rattle.texts.specs.Texts.{glyph, spelled, decimal, hex}

@@ -10,7 +10,7 @@ use lib.Dec.{ltb}
 use lib.ListN.{length, take, length-take}
 use lib.Seq.{take-nil, take-take, take_all}
 use borrow.Author.Tests.{lt-ltb, le-ltb, ltb-true, ltb-false}
-use Rattle.bytes.specs.Bytes.{index_of}
+use Rattle.finding.specs.Finding.{index_of}
 use Rattle.places.proofs.Below.{le_or_lt}
 use Rattle.lines.specs.Lines.{Line, vector_line, bad_line, line_of, named_of}
 use Rattle.lines.specs.declared.Named.{Named}

@@ -11,7 +11,7 @@ use lib.Dec.{leb, ltb, eqb}
 use lib.ListN.{length, get_or, take, drop, length-append, length-drop}
 use borrow.Author.Tests.{leb-true}
 use Rattle.places.proofs.Below.{and_true}
-use Rattle.bytes.specs.Bytes.{index_of}
+use Rattle.finding.specs.Finding.{index_of}
 use Rattle.lines.specs.Numerals.{all_digits, value_from, numeral_of, decimal_of, bits_of}
 use Rattle.lines.specs.Lines.{Line, vector_line, bad_line, same, entry, entry_of, push, entries_of, of_words, line_of, words}
 use Rattle.lines.specs.declared.Numeral.{Numeral}

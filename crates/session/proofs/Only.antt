@@ -9,7 +9,7 @@ use lib.ListN.{length, take, drop, length-drop}
 use lib.Seq.{append_snoc}
 use borrow.Author.Tests.{eqb-true}
 use Rattle.places.proofs.Below.{and_true}
-use Rattle.bytes.specs.Bytes.{index_of}
+use Rattle.finding.specs.Finding.{index_of}
 use Rattle.lines.specs.Numerals.{decimal_of, bits_of}
 use Rattle.lines.specs.Lines.{Line, vector_line, bad_line, words, same, entry, entry_of, push, entries_of, of_words, line_of, named_of}
 use Rattle.lines.specs.Loops.{words_after}

@@ -1,6 +1,8 @@
 // Sparse f32 vectors: a vector is its dims, its indexes and its values. Every call tests the vectors it
 // is given, the left one first; a refusal leaves the lent lists as they were.
 
+#![tactic(auto)]
+
 ghost use Rattle.refusal.specs.Answers.{Checks};
 ghost use Rattle.sparse.specs.Vectors.{vector};
 ghost use Rattle.sparse.specs.Calls.{checked_of};

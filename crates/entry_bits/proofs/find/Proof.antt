@@ -5,7 +5,7 @@ use native.Mathlib.Numerals.{add-one}
 use mathlib.Core.Path.{◌≡◌}
 use lib.ListN.{length, drop}
 use borrow.Author.Rules.{rules}
-use Rattle.bytes.specs.Bytes.{index_of}
+use Rattle.finding.specs.Finding.{index_of}
 use Rattle.lines.proofs.Finding.{found_here, found_later, found_none}
 use Rattle.entry_bits.proofs.find.Statement.{statement}
 use Rattle.entry_bits.proofs.find.Tie as tie

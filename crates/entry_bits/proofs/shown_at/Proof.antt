@@ -8,7 +8,7 @@ use lib.Dec.{ltb}
 use lib.ListN.{length, get_or-eq_default}
 use borrow.Author.Tests.{lt-ltb, le-ltb}
 use borrow.Author.Rules.{rules}
-use Rattle.bytes.specs.Bytes.{index_of}
+use Rattle.finding.specs.Finding.{index_of}
 use Rattle.entry_bits.proofs.shown_at.Statement.{statement}
 use Rattle.entry_bits.proofs.shown_at.Tie as tie
 

@@ -2,7 +2,7 @@
 use Prim.Native.Nat.{◌+◌}
 use mathlib.Core.Path.{◌≡◌, ◌∙◌}
 use lib.ListN.{drop}
-use Rattle.bytes.specs.Bytes.{index_of}
+use Rattle.finding.specs.Finding.{index_of}
 use Rattle.lines.proofs.Texts.{found}
 use Rattle.reading.proofs.Ends.{near, far}
 use borrow.Author.Rules.{rules}
