@@ -2,6 +2,8 @@
 // that an entry that one vector alone has keeps its bits, a NaN's too. These are parts of `session`, and no calls that a
 // user makes: how long the lists are is required.
 
+#![tactic(auto)]
+
 ghost use Rattle.std.specs.Prelude.{◌++◌, map, ◌≡◌, ◌≤◌, length, drop};
 ghost use Rattle.std.specs.Float.{binary32};
 ghost use Rattle.std.specs.Float.Ieee.{of_bits};

@@ -1,6 +1,8 @@
 // Reads the lines of a session, one after the other. These are parts of `session`, and no calls that a user makes: that
 // a line starts within the bytes is required.
 
+#![tactic(auto)]
+
 ghost use Rattle.std.specs.Prelude.{cond, not, ◌≡◌, ◌+◌, ◌≤◌, eqb, length, drop};
 ghost use Rattle.finding.specs.Finding.{index_of};
 ghost use Rattle.reading.specs.Starts.{has_line, rest, first_vector, first_name};

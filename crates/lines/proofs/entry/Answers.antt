@@ -25,14 +25,14 @@ colon c = c.find-colon.ensures.place ∙ found_first 58 c.args.s.now
 index : (c : After-decimal) → let s = c.args.s.now in
     c.decimal.result ≡ decimal_of (take (index_of 58 s) s)
 index c =
-    let f = (goal.at.After-decimal c).After-shared_slice_known-1 in
+    let f = (goal.at.After-decimal c).After-find-colon in
     c.decimal.ensures ∙ ap (λ (k : ℕ). decimal_of (take k f.args.s.now)) (colon f)
 
 -- and the bits
 value : (c : After-bits) → let s = c.args.s.now in
     c.bits.result ≡ bits_of (drop (suc (index_of 58 s)) s)
 value c =
-    let f = (goal.at.After-bits c).After-shared_slice_known-1 in
+    let f = (goal.at.After-bits c).After-find-colon in
     c.bits.ensures ∙ ap bits_of (after f.args.s.now _ _ (colon f))
 
 pub returns-then-colon-s : goal.returns-then-colon-s
@@ -48,4 +48,4 @@ returns-in_default-bits c = rw (sym (value (goal.at.returns-in_default-bits c).A
 
 pub returns : goal.returns
 returns c = let v = (goal.at.returns c).After-bits in
-    rw (sym (index (goal.at.returns c).After-decimal) ∙ v.in-Of.is, sym (value v) ∙ c.in-Of-bits.is)
+    rw (sym (index (goal.at.returns c).After-decimal) ∙ c.in-Of.is, sym (value v) ∙ c.in-Of-bits.is)

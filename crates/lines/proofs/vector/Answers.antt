@@ -31,12 +31,12 @@ pub returns-then-first-s : goal.returns-then-first-s
 returns-then-first-s c = rw (one_word _ _ (first (goal.at.returns-then-first-s c).After-find-first) c.if-first-s.true) refl
 
 pub returns-then-not-is_same : goal.returns-then-not-is_same
-returns-then-not-is_same c = rw (two_words _ _ _ (first (goal.at.returns-then-not-is_same c).After-find-first) (omega arith) refl, sym c.is_same.ensures ∙ not-true _ c.if-not-is_same.true) refl
+returns-then-not-is_same c = rw (two_words _ _ _ (first (goal.at.returns-then-not-is_same c).After-find-first) (omega arith) refl, sym c.is_same.ensures ∙ c.if-not-is_same.true) refl
 
 pub returns-in_default : goal.returns-in_default
 returns-in_default c = rw (words (goal.at.returns-in_default c).After-find-second, no_dims _ _ _ (sym c.decimal.ensures ∙ c.in_default.is)) refl
 
 pub returns : goal.returns
 returns c = let w = (goal.at.returns c).After-find-second in
-    rw (words w, sym w.is_same.ensures ∙ not-false _ w.if-not-is_same.false, sym c.decimal.ensures ∙ c.in-Of.is)
+    rw (words w, sym c.is_same.ensures ∙ c.if-not-is_same.false, sym c.decimal.ensures ∙ c.in-Of.is)
     c.entries.ensures
