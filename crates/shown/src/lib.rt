@@ -7,7 +7,7 @@ pub mod bare;
 use refusal::{Asked, Checked, Distance, Merged, Ordering, Written};
 
 // The file descriptor of the standard output.
-const STDOUT: i32 = 1;
+pub const STDOUT: i32 = 1;
 
 pub fn text(s: &[u8]) {
     io::write_all(STDOUT, s);
