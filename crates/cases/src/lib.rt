@@ -28,14 +28,14 @@ pub const DOT_INDEX: u32 = 4008636142;
 pub const DOT_VALUE: f32 = -36973140302885665537819410432.0;
 
 // A number, and the place after it.
-#[derive(Drop)]
+#[derive(Clone, Copy)]
 pub struct Numeral {
     pub value: u64,
     pub at: usize,
 }
 
 // A number that a u32 holds, and the place after it.
-#[derive(Drop)]
+#[derive(Clone, Copy)]
 pub struct Small {
     pub value: u32,
     pub at: usize,
@@ -50,7 +50,7 @@ pub struct Shape {
 }
 
 // How many numbers stand in a row, and the place after them.
-#[derive(Drop)]
+#[derive(Clone, Copy)]
 pub struct Several {
     pub many: usize,
     pub at: usize,
