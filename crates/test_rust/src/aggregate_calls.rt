@@ -1,7 +1,7 @@
 // The calls of `aggregate_svecf32`: a capacity, the average of a state with any count, or a run of steps on two states.
 
 use crate::names::Call;
-use crate::{show, states, steps};
+use crate::{run_steps, show, states};
 use aggregate_svecf32::Header;
 
 // The capacity for so many entries.
@@ -75,7 +75,7 @@ pub fn case(s: &[u8], from: usize, call: Call) -> bool {
         Call::Capacity => capacity(s, from),
         Call::Average => average(s, from),
         Call::Run => {
-            if !steps::are_steps(s, from) {
+            if !run_steps::are_steps(s, from) {
                 return false;
             }
             run(s, from);

@@ -35,15 +35,17 @@
 //
 // A sparse vector has at most 256 entries, a written one 512, a state 1,024, and a bit vector 1,024 words. Add and sub
 // are lent the room that they ask for, and no more.
+#![tactic(auto)]
+
 mod aggregate_calls;
 mod bit_calls;
-mod bits;
+mod bit_vectors;
 mod bvect_calls;
 mod names;
 mod read;
+mod run_steps;
 mod show;
 mod states;
-mod steps;
 mod svect_calls;
 
 ghost use Rattle.std.specs.Prelude.{◌≤◌, length};
@@ -57,8 +59,8 @@ fn answer(s: &[u8]) -> bool {
     let from = cases::after(s, call.at, b' ');
     match names::file_of(file.value) {
         File::Svect => svect_calls::case(s, from, names::call_of(call.value)),
-        File::Bvect => bits::case(s, from, names::call_of(call.value), true),
-        File::Bit => bits::case(s, from, names::call_of(call.value), false),
+        File::Bvect => bit_vectors::case(s, from, names::call_of(call.value), true),
+        File::Bit => bit_vectors::case(s, from, names::call_of(call.value), false),
         File::Aggregate => aggregate_calls::case(s, from, names::call_of(call.value)),
         File::Unknown => false,
     }

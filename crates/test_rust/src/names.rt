@@ -1,7 +1,7 @@
 // The names of files, calls and steps, as the numbers that `cases` makes of them.
 
 // The Rust's file.
-#[derive(Drop)]
+#[derive(Clone, Copy)]
 pub enum File {
     Svect,
     Bvect,
@@ -10,7 +10,7 @@ pub enum File {
     Unknown,
 }
 
-#[derive(Drop)]
+#[derive(Clone, Copy)]
 pub enum Call {
     Check,
     Zero,
@@ -38,7 +38,7 @@ pub enum Call {
 }
 
 // A step of a run.
-#[derive(Drop)]
+#[derive(Clone, Copy)]
 pub enum Step {
     First,
     Second,

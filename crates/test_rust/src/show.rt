@@ -65,9 +65,9 @@ fn state(h: Header) {
 }
 
 // The state that a call left, or its refusal.
-pub fn told(r: Told) {
+pub fn told(r: &Told) {
     match r {
-        Told::Done(h, turns) => state(h),
-        Told::Refused(h, n, p) => shown::bare::refused(n, p),
+        Told::Done(h, _) => state(*h),
+        Told::Refused(_, n, p) => shown::bare::refused(*n, *p),
     }
 }

@@ -3,7 +3,7 @@
 ghost use Rattle.cases.specs.Room.{Inside};
 
 use crate::names::Step;
-use crate::{show, steps};
+use crate::{run_steps, show};
 use aggregate_svecf32::{Header, Told};
 use cases::Shape;
 use refusal::Written;
@@ -40,10 +40,10 @@ pub fn fresh() -> States {
     }
 }
 
-fn needs_room(r: Told) -> bool {
+fn needs_room(r: &Told) -> bool {
     match r {
-        Told::Done(h, turns) => false,
-        Told::Refused(h, n, p) => n == refusal::NEED,
+        Told::Done(_, _) => false,
+        Told::Refused(_, n, _) => *n == refusal::NEED,
     }
 }
 
@@ -69,7 +69,7 @@ fn feed(
     xv: &[f32],
 ) -> Told {
     let r = h.row(ai, av, dims, xi, xv);
-    if !needs_room(r) {
+    if !needs_room(&r) {
         return r;
     }
     let grown = grow(h, ai, av, xi.len());
@@ -89,7 +89,7 @@ fn combine(
     bv: &[f32; 1024],
 ) -> Told {
     let r = h.combine(ai, av, other, bi, bv);
-    if !needs_room(r) {
+    if !needs_room(&r) {
         return r;
     }
     let grown = grow(h, ai, av, other.len);
@@ -118,7 +118,7 @@ fn feed_entries(
 
 // Shows what a call told. `at` is the place after its step. A refusal ends the run.
 fn told(r: Told, at: usize) -> Left {
-    show::told(r);
+    show::told(&r);
     match r {
         Told::Done(h, turns) => Left { header: h, at: at },
         Told::Refused(h, n, p) => Left { header: h, at: 0 },
@@ -136,11 +136,12 @@ fn row(s: &[u8], from: usize, h: Header, ai: &mut [u32; 1024], av: &mut [f32; 10
 
 // Shows what a state gives. `at` is the place after the step. A refusal ends the run.
 fn written(r: Written, oi: &[u32; 512], ov: &[f32; 512], at: usize) -> usize {
+    let next = match r {
+        Written::Done(_, _) => at,
+        Written::Refused(_, _) => 0,
+    };
     show::sparse(r, oi, ov);
-    match r {
-        Written::Done(dims, n) => at,
-        Written::Refused(n, p) => 0,
-    }
+    next
 }
 
 fn sum(h: Header, ai: &[u32; 1024], av: &[f32; 1024], at: usize) -> usize {
@@ -199,7 +200,7 @@ pub fn step(
 ) -> Next {
     let first = both.first;
     let second = both.second;
-    let found = steps::step_at(s, at);
+    let found = run_steps::step_at(s, at);
     let step = found.step;
     match step {
         Step::First => with_first(row(s, found.from, first, ai, av), second),
