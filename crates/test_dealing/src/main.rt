@@ -15,6 +15,8 @@
 // The states lie in two pairs of lists, A and B. A state moves to the other pair where a row or a combine answers
 // NEED. A second state is brought over to the other pair where it would lie in the pair of the first.
 
+#![tactic(auto)]
+
 mod rows;
 mod settings;
 mod show;

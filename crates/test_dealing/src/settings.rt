@@ -37,7 +37,7 @@ const PASSED: u64 = 2;
 // State k takes 2k + 2 and 2k + 1, from the last on.
 const BALANCED: u64 = 3;
 
-#[derive(Drop)]
+#[derive(Clone, Copy)]
 pub struct Setting {
     pub states: usize,
     pub deal: u64,
@@ -47,7 +47,7 @@ pub struct Setting {
 }
 
 // A state, and the one that it takes.
-#[derive(Drop)]
+#[derive(Clone, Copy)]
 pub struct Pair {
     pub one: usize,
     pub other: usize,

@@ -12,14 +12,14 @@ pub type Indexes = [u32; 3072];
 pub type Values = [f32; 3072];
 
 // A state, and whether it lies in the pair B.
-#[derive(Drop)]
+#[derive(Clone, Copy)]
 pub struct State {
     pub header: Header,
     pub in_b: bool,
 }
 
 // The state that a call left, and DONE; or the number and the place with which it refused.
-#[derive(Drop)]
+#[derive(Clone, Copy)]
 pub struct Step {
     pub state: State,
     pub number: u32,

@@ -9,7 +9,7 @@ use crate::{rows, settings, states};
 
 // What happened so far: how many states moved to take a row and how many to take a state, and how many second
 // states were brought to the other pair; and the refusal that ended it, or DONE.
-#[derive(Drop)]
+#[derive(Clone, Copy)]
 pub struct Tally {
     pub rows: usize,
     pub combines: usize,
