@@ -14,7 +14,7 @@ fn closed() -> Header {
 
 // Shows an answer and the lists that it left. If the call merged, the spare places of the new state are open.
 fn answer(r: Told, merges: bool, indexes: &[u32], values: &[f32]) {
-    show::told(r);
+    show::told(&r);
     if merges {
         if let Told::Done(h, turns) = r {
             show::lists(indexes, values, h);

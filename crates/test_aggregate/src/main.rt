@@ -16,6 +16,8 @@
 // An answer shows the number and the place, or what was done; the header that is handed back; and then the lists
 // that the call may change, as it left them. `_` is an entry that a merge leaves open: one of the region's from
 // len up to the capacity.
+#![tactic(auto)]
+
 mod calls;
 mod read;
 mod show;

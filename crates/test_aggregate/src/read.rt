@@ -6,7 +6,7 @@ use aggregate_svecf32::Header;
 use cases::{Several, Shape};
 
 // The call that a line names.
-#[derive(Drop)]
+#[derive(Clone, Copy)]
 pub enum Call {
     Fresh,
     Capacity,

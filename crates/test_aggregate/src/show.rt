@@ -22,17 +22,17 @@ pub fn header(h: Header) {
     shown::number(h.count);
 }
 
-pub fn told(r: Told) {
+pub fn told(r: &Told) {
     match r {
         Told::Done(h, turns) => {
             shown::text(b" done");
-            header(h);
+            header(*h);
             shown::text(b" turns");
-            shown::number(turns as u64);
+            shown::number(*turns as u64);
         }
         Told::Refused(h, n, p) => {
-            shown::refused(n, p);
-            header(h);
+            shown::refused(*n, *p);
+            header(*h);
         }
     }
 }

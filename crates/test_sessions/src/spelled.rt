@@ -10,7 +10,7 @@
 use cases::Small;
 
 // How many bytes there are so far, and the place after what they were read from.
-#[derive(Drop)]
+#[derive(Clone, Copy)]
 struct Made {
     many: usize,
     at: usize,
