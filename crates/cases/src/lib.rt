@@ -7,6 +7,8 @@
 //
 // Each reader starts at a place of the line and answers the place after what it read. What it cannot read it
 // leaves, so that a bad line is one that is not read to its end.
+#![tactic(auto)]
+
 pub mod bounds;
 mod digits;
 mod lists;
@@ -17,27 +19,30 @@ ghost use Rattle.cases.specs.Room.{Inside};
 
 use crate::digits::Longer;
 
+// The file descriptor of the standard input.
+const STDIN: i32 = 0;
+
 // What `.` stands for.
 pub const DOT_INDEX: u32 = 4008636142;
 
 pub const DOT_VALUE: f32 = -36973140302885665537819410432.0;
 
 // A number, and the place after it.
-#[derive(Drop)]
+#[derive(Clone, Copy)]
 pub struct Numeral {
     pub value: u64,
     pub at: usize,
 }
 
 // A number that a u32 holds, and the place after it.
-#[derive(Drop)]
+#[derive(Clone, Copy)]
 pub struct Small {
     pub value: u32,
     pub at: usize,
 }
 
 // The numbers of indexes and of values of two lists, and the place after them.
-#[derive(Drop)]
+#[derive(Clone, Copy)]
 pub struct Shape {
     pub indexes: usize,
     pub values: usize,
@@ -45,7 +50,7 @@ pub struct Shape {
 }
 
 // How many numbers stand in a row, and the place after them.
-#[derive(Drop)]
+#[derive(Clone, Copy)]
 pub struct Several {
     pub many: usize,
     pub at: usize,
@@ -62,7 +67,7 @@ pub fn room() -> [u8; 262144]
 pub fn input(space: &mut [u8]) -> usize
     ensures { IsPrefixLen result space.new }
 {
-    let n = io::read_full(libc::STDIN_FILENO, space);
+    let n = io::read_full(STDIN, space);
     if 0 < n {
         if space[n - 1] == b'\n' {
             return n;

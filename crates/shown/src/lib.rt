@@ -1,21 +1,26 @@
 // Prints the answers of calls in plain words, for the test programs. A refusal shows its number and its
 // place, and a float the eight digits of its bits. A space stands in front of each, but in `bare`.
+#![tactic(auto)]
+
 pub mod bare;
 
 use refusal::{Asked, Checked, Distance, Merged, Ordering, Written};
 
+// The file descriptor of the standard output.
+pub const STDOUT: i32 = 1;
+
 pub fn text(s: &[u8]) {
-    io::write_all(libc::STDOUT_FILENO, s);
+    io::write_all(STDOUT, s);
 }
 
 // A number in decimal, with no space in front.
 pub fn digits(n: u64) {
-    io::print_decimal(libc::STDOUT_FILENO, n);
+    io::print_decimal(STDOUT, n);
 }
 
 // A number in hex, in as few digits as it takes, with no space in front.
 pub fn hex(n: u64) {
-    io::print_hex(libc::STDOUT_FILENO, n, 1);
+    io::print_hex(STDOUT, n, 1);
 }
 
 pub fn number(n: u64) {
@@ -24,7 +29,7 @@ pub fn number(n: u64) {
 }
 
 fn pattern(n: u32) {
-    io::print_hex(libc::STDOUT_FILENO, n as u64, 8);
+    io::print_hex(STDOUT, n as u64, 8);
 }
 
 // The digits of a float's bits. Those of a NaN are not promised.

@@ -15,6 +15,8 @@
 //
 // `check` makes the two calls that check one vector, `order` those that check and compare two, `pair` all those
 // on two vectors that only read, and `combine` the six that write, one after another to one lent list.
+#![tactic(auto)]
+
 mod calls;
 mod read;
 mod show;

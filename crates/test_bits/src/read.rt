@@ -5,7 +5,7 @@ ghost use Rattle.std.specs.Prelude.{◌≤◌, length};
 use cases::Several;
 
 // How a vector starts: its dims, and a word so many times; and the place after that.
-#[derive(Drop)]
+#[derive(Clone, Copy)]
 pub struct Head {
     pub dims: u32,
     pub word: u64,

@@ -5,7 +5,7 @@ use refusal::Written;
 
 fn word(w: u64) {
     shown::text(b" ");
-    io::print_hex(libc::STDOUT_FILENO, w, 16);
+    io::print_hex(shown::STDOUT, w, 16);
 }
 
 // The words from a place on.
@@ -61,12 +61,13 @@ fn edges(dims: u32, out: &[u64]) {
 // What a call answered, and what it left in a lent list: its words; or, of a list of more than 16, its edges if
 // the call is done.
 pub fn written(r: Written, out: &[u64]) {
-    shown::written(r, b" words");
     if out.len() <= 16 {
+        shown::written(r, b" words");
         left(out);
-        return;
-    }
-    if let Written::Done(dims, n) = r {
+    } else if let Written::Done(dims, _) = r {
+        shown::written(r, b" words");
         edges(dims, out);
+    } else {
+        shown::written(r, b" words");
     }
 }

@@ -7,6 +7,8 @@
 // for a slice its two bounds; and the lengths of the two lent lists. `=4` is Included 4, `!4` is Excluded 4, and
 // `*` is Unbounded. A vector has at most 48 indexes and 48 values, and a lent list at most 48 places. Before the
 // call, a lent list has what `.` stands for at every place.
+#![tactic(auto)]
+
 mod calls;
 mod read;
 mod show;
