@@ -5,9 +5,10 @@
 
 #![tactic(auto)]
 
-// The descriptors of standard input and of standard output.
+// The descriptor of standard input.
 const STDIN: i32 = 0;
 
+// The descriptor of standard output.
 const STDOUT: i32 = 1;
 
 fn main() {
