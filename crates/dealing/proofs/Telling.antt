@@ -55,7 +55,7 @@ module _ {xs ys : List Vector} (p : Perm xs ys) where
 module _ (p : Pair) (h : Header) where
   -- a state that took in rows took in the same rows in any order
   pub same_holding : {xs ys : List Vector} → Perm xs ys → Holding p h xs → Holding p h ys
-  same_holding {ys = ys} q (bare t z) = rw (Perm.eq_nil (Perm.symm q)) (bare t z)
+  same_holding {ys = ys} q (bare t z) = rw (Perm.eq-nil (Perm.symm q)) (bare t z)
   same_holding {xs} {ys} q (full t s c v) =
       full {o = ys} t s (c ∙ perm_length q)
       (record {

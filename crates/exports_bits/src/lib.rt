@@ -2,6 +2,8 @@
 // answer is returned, 0 if nothing was refused; the rest goes to lent slots. `Tells` in a contract says that what
 // the caller is given is what an answer of the call below says.
 
+#![tactic(auto)]
+
 ghost use Rattle.std.specs.Prelude.{[], ◌∷◌};
 ghost use Rattle.refusal.specs.Answers.{gives, says, checked_says, distance_says, written_says, asked_says, order_says, Checks};
 ghost use Rattle.bits.specs.Calls.{checked_of};

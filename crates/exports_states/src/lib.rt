@@ -1,6 +1,8 @@
 // The calls of `aggregate_svecf32` under C names, as `exports_bits` has those of `bvect`. The header of a
 // state is a list of seven numbers; a refusal leaves it as it was.
 
+#![tactic(auto)]
+
 ghost use Rattle.std.specs.Prelude.{[], ◌∷◌, ◌≡◌};
 ghost use Rattle.refusal.specs.Answers.{says, checked_says, written_says, Checks};
 ghost use Rattle.sparse.specs.Vectors.{vector};

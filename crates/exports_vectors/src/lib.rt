@@ -1,5 +1,7 @@
 // The calls of `svect` under C names, as `exports_bits` has those of `bvect`.
 
+#![tactic(auto)]
+
 ghost use Rattle.std.specs.Prelude.{[], ◌∷◌};
 ghost use Rattle.refusal.specs.Answers.{gives, says, checked_says, distance_says, written_says, merged_says, asked_says, order_says, Checks};
 ghost use Rattle.sparse.specs.Vectors.{vector};

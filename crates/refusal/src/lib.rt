@@ -1,5 +1,6 @@
 // The numbers that a call can refuse with, the answers that several crates share, and the bounds of
 // a slice. An answer is an enum; specs/Answers.antt says which number and place each case stands for.
+#![tactic(auto)]
 
 ghost use Rattle.std.specs.Prelude.{◌≡◌};
 ghost use Rattle.refusal.specs.Bounds.{start_of, end_of, span_of};

@@ -1,5 +1,7 @@
 // A whole session of the program `oxlanyard`: bytes in, one line out. Any bytes get an answer.
 
+#![tactic(auto)]
+
 mod operating;
 
 ghost use Rattle.std.specs.Prelude.{◌≤◌, length, take};

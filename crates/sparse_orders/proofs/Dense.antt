@@ -18,7 +18,7 @@ use Rattle.refusal.specs.declared.Ordering.TheVariants.{Less, Equal, Greater, Un
 use Rattle.sparse.specs.Calls.{checked_of}
 use Rattle.sparse.specs.Cells.{zero32}
 use Rattle.sparse.specs.Sound.{Split, Sound}
-use Rattle.sparse.specs.Vectors.{Vector, size, at}
+use Rattle.sparse.specs.Vectors.{Vector, size}
 use Rattle.sparse.proofs.Checks.{sound}
 use Rattle.sparse.proofs.Look.{look_none, look_full, look_gap, look_met}
 use Rattle.sparse_orders.specs.Calls.{Compares}

@@ -23,7 +23,7 @@ use Rattle.refusal.proofs.Chains.{next_valid}
 use Rattle.sparse.specs.Calls.{checked_of, each_of}
 use Rattle.sparse.specs.Cells.{zero32, look}
 use Rattle.sparse.specs.declared.Cell.TheVariants.{Full}
-use Rattle.sparse.specs.Vectors.{Vector, size, at}
+use Rattle.sparse.specs.Vectors.{Vector, size}
 use Rattle.sparse.proofs.Checks.{sound}
 use Rattle.sparse_orders.specs.Calls.{Equals, Compares}
 use Rattle.sparse_orders.specs.Dense.{answered, mirror, value_or0, dense, first_apart, dense_order, NoNan, up_to}

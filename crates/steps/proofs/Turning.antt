@@ -8,7 +8,7 @@ use mathlib.Core.Path.{◌≡◌, refl, sym}
 use mir.Val.{bool_byte}
 use lib.Dec.{ltb, leb, eqb}
 use lib.ListN.{length, get_or, set, length-set}
-use lib.Ieee.{Float, nan, binary32, mul}
+use lib.Ieee.{Float, nan}
 use Rattle.sparse.specs.Cells.{keep}
 use Rattle.sparse.specs.declared.Cell.{Cell}
 use Rattle.sparse.specs.declared.Cell.TheVariants.{Empty, Full}

@@ -1,4 +1,3 @@
-use Prim.Native.Nat.{◌-◌}
 use native.Mathlib.Omega.{arith}
 use Rattle.sparse.specs.Vectors.{vector}
 use Rattle.averages.proofs.Shares.{Dividing, dividing_start, dividing_lengths}

@@ -1,5 +1,4 @@
 use native.Mathlib.Omega.{arith}
-use Prim.Native.Nat.{◌-◌}
 use Rattle.bit_orders.proofs.Orders.{words_decide, words_equal}
 use Rattle.bit_orders.proofs.compare_all.Goals as goal
 

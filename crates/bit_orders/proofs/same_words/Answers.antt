@@ -1,5 +1,4 @@
 use native.Mathlib.Omega.{arith}
-use Prim.Native.Nat.{◌-◌}
 use Rattle.bit_orders.proofs.Orders.{words_same, words_differ}
 use Rattle.bit_orders.proofs.same_words.Goals as goal
 

@@ -1,5 +1,4 @@
 use native.Mathlib.Omega.{arith}
-use Prim.Native.Nat.{◌-◌}
 use mathlib.Core.Path.{refl}
 use Rattle.places.proofs.Below.{wrote_none, wrote_more}
 use Rattle.bit_slices.proofs.clear.Goals as goal

@@ -1,5 +1,4 @@
 use native.Mathlib.Omega.{arith}
-use Prim.Native.Nat.{◌-◌}
 use Rattle.places.proofs.Below.{wrote_none, wrote_more}
 use Rattle.bit_words.proofs.combine.Goals as goal
 

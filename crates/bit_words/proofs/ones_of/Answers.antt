@@ -1,5 +1,5 @@
 use native.Mathlib.Omega.{arith}
-use Prim.Native.Nat.{◌+◌, ◌-◌, ◌<◌}
+use Prim.Native.Nat.{◌+◌, ◌<◌}
 use lib.Count.{ones}
 use Rattle.bit_words.proofs.Ones.{ones_none, ones_more, ones_fit}
 use Rattle.bit_words.proofs.ones_of.Goals as goal

@@ -1,4 +1,3 @@
-use Prim.Native.Nat.{◌-◌}
 use native.Mathlib.Omega.{arith}
 use Rattle.copies.proofs.Copies.{copied_start, copied_next}
 use Rattle.copies.proofs.copy_below.Goals as goal

@@ -1,4 +1,4 @@
-use Rattle.std.proofs.Common.{◌-◌, length, arith, ltb-true}
+use Rattle.std.proofs.Common.{length, arith, ltb-true}
 use Rattle.places.proofs.Below.{any_none}
 use Rattle.sparse.specs.Calls.{falls}
 use Rattle.sparse.proofs.Falls.{short, risen_more}

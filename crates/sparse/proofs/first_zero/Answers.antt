@@ -1,4 +1,4 @@
-use Rattle.std.proofs.Common.{◌-◌, length, sym, arith}
+use Rattle.std.proofs.Common.{length, sym, arith}
 use Rattle.places.proofs.First.{found, none}
 use Rattle.sparse.specs.Calls.{zero_at}
 use Rattle.sparse.proofs.first_zero.Goals as goal

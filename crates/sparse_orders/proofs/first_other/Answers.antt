@@ -1,4 +1,3 @@
-use Prim.Native.Nat.{◌-◌}
 use native.Mathlib.Omega.{arith}
 use Rattle.sparse.specs.Vectors.{Vector}
 use Rattle.sparse_orders.specs.Loops.{entries}

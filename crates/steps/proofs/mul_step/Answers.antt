@@ -1,8 +1,6 @@
 -- `steps::mul_step` meets its contract: where the sides are at two places the first of them is passed, and else both are. Assumes nothing.
 use mathlib.Core.Path.{sym}
 use Rattle.steps.proofs.Turning.{met_stepped, none_stepped}
-use Rattle.walks.proofs.kept.Reads as kept-reads
-use Rattle.walks.proofs.put.Reads as put_reads
 use Rattle.steps.proofs.mul_step.Goals as goal
 
 pub returns-then-i-j : goal.returns-then-i-j

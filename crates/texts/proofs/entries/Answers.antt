@@ -1,4 +1,3 @@
-use Prim.Native.Nat.{◌-◌}
 use native.Mathlib.Omega.{arith}
 use mathlib.Core.List.{[]}
 use mathlib.Core.Path.{refl, sym, ◌∙◌}
@@ -22,4 +21,4 @@ loop-i-preserved c = let entry = c.entry-to in
     let l = c.loop-i in
     let pre = c.requires in
     let more = entries_more c.args.indexes.now c.args.bits.now l.i (omega arith) (omega arith) in
-    (omega arith, entry.auto.0 ∙ l.invariant.1, rw (sym more) (puts_both (omega arith) l.invariant.2 entry.ensures))
+    (omega arith, entry.auto.out ∙ l.invariant.1, rw (sym more) (puts_both (omega arith) l.invariant.2 entry.ensures))
