@@ -1,6 +1,8 @@
 // Answers sessions of the program `oxlanyard`. Standard input has a session a line: a label, a bar, and the bytes of the
 // session, as `spelled` reads them. For each it prints the label, a bar and the answer. A line that starts with `#` is a
 // comment, and is printed as it is. The program stops at a line that it cannot read, and says so.
+#![tactic(auto)]
+
 mod spelled;
 
 // Prints the answer to the session of the first n bytes. Answers whether there was room for it.
