@@ -10,7 +10,7 @@ use lib.Seq.{take_at, length-take-le, get_or-drop}
 use lib.Ieee.{Float}
 use Rattle.places.specs.Below.{count_below}
 use Rattle.sparse.specs.Cells.{indexes_below, values_below}
-use Rattle.sparse.specs.Vectors.{Vector, vector, size, at, in_union}
+use Rattle.sparse.specs.Vectors.{Vector, vector, size, in_union}
 use Rattle.sparse.specs.Sound.{Sound}
 use Rattle.sparse.proofs.Checks.{size_most}
 use Rattle.sparse.proofs.Entries.{as_many}

@@ -1,8 +1,6 @@
 -- `headers::is_begun_fairly` meets its contract: each test that fails is one that fair numbers pass. Assumes nothing.
 use native.Mathlib.Omega.{arith}
-use mathlib.Core.Bool.{false}
 use mathlib.Core.Path.{◌≡◌, sym, ap, ◌∙◌}
-use lib.ListN.{length}
 use borrow.Author.Tests.{eq-eqb}
 use Rattle.sparse.specs.Calls.{checked_of}
 use Rattle.sparse.specs.Vectors.{Vector, vector}

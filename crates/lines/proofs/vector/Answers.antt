@@ -4,7 +4,6 @@ use mathlib.Core.List.{◌∷◌}
 use mathlib.Core.Path.{◌≡◌, refl, sym, ◌∙◌}
 use native.Mathlib.Omega.{arith}
 use lib.ListN.{take, drop}
-use borrow.Author.Tests.{not-true, not-false}
 use Rattle.finding.specs.Finding.{index_of}
 use Rattle.lines.specs.Lines.{line_of, of_words}
 use Rattle.lines.specs.Loops.{words_after}

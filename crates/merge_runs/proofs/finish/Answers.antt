@@ -1,4 +1,3 @@
-use Prim.Native.Nat.{◌-◌}
 use Rattle.merge_runs.proofs.Loops.{runs_start, runs_more}
 use Rattle.merge_runs.proofs.finish.Goals as goal
 

@@ -1,8 +1,6 @@
-use Prim.Native.Nat.{◌-◌}
 use native.Mathlib.Omega.{arith}
 use mathlib.Core.Logic.{inl, inr}
 use mathlib.Core.Path.{refl}
-use lib.ListN.{length}
 use Rattle.sparse.proofs.Checks.{size_most}
 use Rattle.merges.proofs.Made.{merging_start, merging_fills}
 use Rattle.merges.proofs.Turning.{running_on, running_out, merging_chain}

@@ -1,4 +1,3 @@
-use Prim.Native.Nat.{◌-◌}
 use Rattle.strides.proofs.Chains.{runs_start, runs_more}
 use Rattle.strides.proofs.run.Goals as goal
 

@@ -1,4 +1,3 @@
-use Prim.Native.Nat.{◌-◌}
 use native.Mathlib.Omega.{arith}
 use Rattle.sums.proofs.Runs.{runs_start, runs_more}
 use Rattle.sum_runs.proofs.plain_run.Goals as goal

@@ -5,7 +5,7 @@ use lib.ListN.{length}
 use mathlib.Core.Bool.{true, false}
 use mathlib.Core.Path.{◌≡◌, sym, ◌∙◌}
 use borrow.Author.Rules.{rules}
-use Rattle.sparse.specs.Vectors.{Vector, vector, size}
+use Rattle.sparse.specs.Vectors.{Vector, vector}
 use Rattle.sparse.proofs.Checks.{size_most}
 use Rattle.regions.specs.Regions.{Pair, pair}
 use Rattle.headers.specs.Headers.{too_many}
