@@ -5,7 +5,8 @@
 ghost use Rattle.std.specs.Prelude.{◌≡◌, ◌+◌, ◌≤◌, length};
 ghost use Rattle.finding.specs.Finding.{index_of, slice};
 
-// The first place from `from` on and before `to` at which the byte `c` stands, or `to`.
+// The first place from `from` on and before `to` at which the byte `c` stands, or `to`. For the
+// crates above, not for users.
 pub fn find(s: &[u8], from: usize, to: usize, c: u8) -> usize
     requires { (from ≤ to) × (to ≤ length s.now) }
     ensures place { result ≡ from + index_of c (slice from to s.now) }

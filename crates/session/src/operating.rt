@@ -52,7 +52,7 @@ fn give(
     out: &mut [u8],
 ) -> usize
     requires fit { Fit ia.now ba.now ib.now bb.now out.old }
-    requires va_value { (va.now ≡ map (of_bits binary32) ba.now) × (vb.now ≡ map (of_bits binary32) bb.now) }
+    requires values { (va.now ≡ map (of_bits binary32) ba.now) × (vb.now ≡ map (of_bits binary32) bb.now) }
     ensures { Tells op (operand dims_a ia.now ba.now) (operand dims_b ib.now bb.now)
         out.old result out.new }
 {

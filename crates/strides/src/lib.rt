@@ -58,7 +58,7 @@ fn store_step(
     q: usize,
 ) -> Step
     requires meeting { Meeting si.old sv.old at cap n ib.now vb.now q }
-    requires nan_value { is_zero (add binary32 (get_or sv.old at nan) (get_or vb.now q nan)) ≡ false }
+    requires stores { is_zero (add binary32 (get_or sv.old at nan) (get_or vb.now q nan)) ≡ false }
     ensures { Stepped si.old sv.old at cap n ib.now vb.now q result si.new sv.new }
 {
     let i = si[at];

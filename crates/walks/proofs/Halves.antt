@@ -24,7 +24,7 @@ module _ {is : List ℕ} {k low high : ℕ} (r : Range is k low high) where
   pub none_left : high ≤ low → Split is low k
   none_left h = record { within = omega arith; low = r.under; high = λ j a b. r.over j (omega arith) b }
 
-  module _ (up : Rising is) {m : ℕ} (at_least_lem : low ≤ m) (before : m < high) where
+  module _ (up : Rising is) {m : ℕ} (at_least : low ≤ m) (before : m < high) where
     pub upper : get_or is m 0 < k → Range is k (m + 1) high
     upper h = record {
       order = omega arith;
@@ -35,7 +35,7 @@ module _ {is : List ℕ} {k low high : ℕ} (r : Range is k low high) where
 
     pub lower : k ≤ get_or is m 0 → Range is k low m
     lower h = record {
-      order = at_least_lem;
+      order = at_least;
       within = omega arith;
       under = r.under;
       over = λ j l b. ⊎_elim (λ e. rw (← e) h) (λ g. omega (arith, up m j g b)) (eq-or-lt_of_le l);

@@ -8,7 +8,6 @@ use Rattle.in_place.proofs.Whole.{raised, grown}
 use Rattle.in_place.proofs.merge_in_place.Goals as goal
 use Rattle.in_place.proofs.merge_in_place.Goals.{After-partition_point-low}
 
--- the start, the search and the move
 -- the entries below the row's first index
 cut : (c : After-partition_point-low) → let a = c.args in
     Split (take a.len a.si.now) c.partition_point-low.result (first_index (vector a.dims a.ib.now a.vb.now))

@@ -11,9 +11,7 @@ use Rattle.in_place.proofs.Climbs.{climbing_end, reached}
 use Rattle.in_place.proofs.merge_up.Goals as goal
 use Rattle.in_place.proofs.merge_up.Goals.{After-any_stride-r}
 
--- before the loop
--- the loop where a turn began, and the turn before a stride
--- where both lead
+-- what a turn and the stride after it lead to
 strode : (c : After-any_stride-r)
     → let a = c.args in
     let s = c.any_stride-r.result in

@@ -7,7 +7,6 @@ use Rattle.merges.proofs.Turning.{running_on, running_out, merging_chain}
 use Rattle.merges.proofs.merge.Goals as goal
 use Rattle.merges.proofs.merge.Goals.{then-loop-p-test+else-q-ib, else-loop-p-test}
 
--- before the loop; in it, after a run; and after the last turns
 pub loop-p-init : goal.loop-p-init
 loop-p-init c = merging_start
 

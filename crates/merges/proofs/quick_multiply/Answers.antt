@@ -8,7 +8,6 @@ use Rattle.merges.proofs.Common.{multiplying_start, lengths, multiplying_more, m
 use Rattle.merges.proofs.quick_multiply.Goals as goal
 use Rattle.merges.proofs.quick_multiply.Goals.{Then-q-ib}
 
--- before the loop
 -- both vectors have an entry left
 more : (c : Then-q-ib)
     → (c.loop-p.p < length c.args.ia.now) × (c.loop-p.q < length c.args.ib.now)
