@@ -4,7 +4,8 @@ use native.Mathlib.Omega.{arith}
 use mathlib.Core.Path.{◌≡◌}
 use lib.Seq.{take-length}
 use borrow.Author.Tests.{lt-ltb, le-ltb}
-use Rattle.refusal.specs.declared.Checked.TheVariants.{Refused}
+use Rattle.std.specs.Prelude.{Ok, Err}
+use Rattle.refusal.specs.declared.Refusal.TheVariants.{Room}
 use Rattle.sparse.specs.Vectors.{Vector, size}
 use Rattle.sparse.proofs.Checks.{size_most}
 use Rattle.regions.specs.Capacity.{capacity_for}
@@ -14,11 +15,10 @@ use Rattle.regions.proofs.Capacities.{cap_le}
 use Rattle.aggregate_svecf32.specs.Calls.{Acts, begin_of, begun}
 use Rattle.aggregate_svecf32.specs.Loops.{Given}
 use Rattle.aggregate_svecf32.specs.declared.Header.{Header}
-use Rattle.aggregate_svecf32.specs.declared.Told.TheVariants.{Done}
 use Rattle.aggregate_svecf32.proofs.Consistent.{state_inside}
 use Rattle.aggregate_svecf32.proofs.Acting.{acts_copied}
 
-pub begin_short : (h : Header) (v : Vector) → let c = capacity_for v.dims (size v) in h.length < c → begin_of h v ≡ Refused 9 c
+pub begin_short : (h : Header) (v : Vector) → let c = capacity_for v.dims (size v) in h.length < c → begin_of h v ≡ Err (Room c)
 begin_short h v l = rw (lt-ltb h.length (capacity_for v.dims (size v)) l)
 
 module _ (h : Header) (p : Pair) (v : Vector) (count : ℕ) (g : Given h p v) (room : capacity_for v.dims (size v) ≤ h.length) where
@@ -35,7 +35,7 @@ module _ (h : Header) (p : Pair) (v : Vector) (count : ℕ) (g : Given h p v) (r
       }
 
   pub begin_done : {q : Pair} → Copied 0 (size v) (pair v.indexes v.values) h.start p q
-      → Acts h (begin_of h v) (begun h v count) p (Done (begun h v count).header (size v)) q
+      → Acts h (begin_of h v) (begun h v count) p (Ok (size v)) (begun h v count).header q
   begin_done =
       acts_copied (begun h v count) (take-length v.indexes) (rw g.row.even (take-length v.values))
       (rw (le-ltb h.length (capacity_for v.dims (size v)) room))

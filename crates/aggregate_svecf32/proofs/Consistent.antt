@@ -1,18 +1,17 @@
 -- What a state that passed its tests is, and that such a state passes them. Assumes nothing.
-use Prim.Native.Nat.{◌+◌, ◌-◌, ◌≤◌}
+use Prim.Native.Nat.{◌+◌, ◌≤◌}
 use native.Mathlib.Omega.{arith}
 use mathlib.Core.Bool.{true, false, not}
 use mathlib.Core.Path.{◌≡◌}
 use lib.ListN.{length}
 use borrow.Author.Tests.{not-false}
-use Rattle.refusal.specs.Answers.{refuse}
-use Rattle.refusal.specs.Numbers.{ROOM, STATE}
-use Rattle.refusal.specs.declared.Checked.TheVariants.{Valid}
+use Rattle.refusal.specs.Answers.{Valid, refuse}
+use Rattle.refusal.specs.declared.Refusal.TheVariants.{Room, State}
 use Rattle.refusal.proofs.Chains.{refuse_valid}
-use Rattle.sparse.specs.Vectors.{vector, size}
-use Rattle.regions.specs.Regions.{Pair, part, inside}
+use Rattle.sparse.specs.Vectors.{size}
+use Rattle.regions.specs.Regions.{Pair, inside}
 use Rattle.regions.proofs.Stands.{inside_both, both_inside, part_length}
-use Rattle.headers.proofs.Tests.{Fair as FairNumbers, Bare as BareNumbers, entries_cut, fair_facts, facts_fair, bare_facts, facts_bare}
+use Rattle.headers.proofs.Tests.{Fair as FairNumbers, Bare as BareNumbers, fair_facts, facts_fair, bare_facts, facts_bare}
 use Rattle.aggregate_svecf32.specs.States.{held, consistent, state_of}
 use Rattle.aggregate_svecf32.specs.declared.Header.{Header}
 
@@ -36,12 +35,6 @@ pub record Sure (h : Header) (p : Pair) : Type 0 where
 abbrev pub Bare : Header → Type 0
 Bare h = BareNumbers h.dims h.len h.capacity h.count
 
--- the entries of a state, lent as those from its start up to its end
-pub held_cut : (h : Header) (p : Pair)
-    → let n = (h.start + h.len) - h.start in
-    vector h.dims (part h.start n p.indexes) (part h.start n p.values) ≡ held h p
-held_cut h = entries_cut h.dims h.start h.len
-
 module _ (h : Header) (p : Pair) where
   pub inside_facts : inside h.start h.length p ≡ true → Inside h p
   inside_facts e = let i = inside_both h.start h.length p e in record { indexes = i.0; values = i.1 }
@@ -49,8 +42,8 @@ module _ (h : Header) (p : Pair) where
   tests : state_of h p ≡ Valid → Inside h p × (consistent h p ≡ true)
   unfolding state_of
   tests e =
-      let a = refuse_valid (not (inside h.start h.length p)) ROOM h.length (refuse (not (consistent h p)) STATE 0 Valid) e in
-      let b = refuse_valid (not (consistent h p)) STATE 0 Valid a.1 in
+      let a = refuse_valid (not (inside h.start h.length p)) (Room h.length) (refuse (not (consistent h p)) State Valid) e in
+      let b = refuse_valid (not (consistent h p)) State Valid a.1 in
       (inside_facts (not-false (inside h.start h.length p) a.0), not-false (consistent h p) b.0)
 
   passing : Inside h p → consistent h p ≡ true → state_of h p ≡ Valid

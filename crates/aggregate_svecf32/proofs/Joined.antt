@@ -11,9 +11,9 @@ use lib.Seq.{take-take}
 use lib.Ieee.{Float}
 use borrow.Author.Tests.{eq-eqb, ne_eqb, lt-ltb, le-ltb, le-leb, lt-leb, eqb-true, leb-true, not-false}
 use Rattle.places.proofs.Below.{le_or_lt}
-use Rattle.refusal.specs.Numbers.{DIFFER, NEED, COUNT}
-use Rattle.refusal.specs.Answers.{refuse}
-use Rattle.refusal.specs.declared.Checked.TheVariants.{Valid, Refused}
+use Rattle.std.specs.Prelude.{Ok, Err}
+use Rattle.refusal.specs.Answers.{Valid, refuse}
+use Rattle.refusal.specs.declared.Refusal.TheVariants.{Differ, Need, Count}
 use Rattle.refusal.proofs.Chains.{refuse_valid}
 use Rattle.sparse.specs.Vectors.{Vector, vector, size}
 use Rattle.sparse.proofs.Entries.{as_many}
@@ -31,7 +31,6 @@ use Rattle.aggregate_svecf32.specs.States.{header, held}
 use Rattle.aggregate_svecf32.specs.Calls.{Acts, needs, spare, merge_of, merged}
 use Rattle.aggregate_svecf32.specs.Loops.{Given}
 use Rattle.aggregate_svecf32.specs.declared.Header.{Header}
-use Rattle.aggregate_svecf32.specs.declared.Told.TheVariants.{Done}
 use Rattle.aggregate_svecf32.proofs.Consistent.{Sure, state_sure}
 use Rattle.aggregate_svecf32.proofs.Acting.{acts_done}
 
@@ -57,15 +56,15 @@ room_or_all h n = go (eqb h.capacity h.dims) (leb n (h.capacity - h.len)) refl r
 
 -- ---- the tests
 module _ (h : Header) (v : Vector) (more : ℕ) where
-  pub merge_differ : (h.dims ≡ v.dims → ⊥) → merge_of h v more ≡ Refused 7 0
+  pub merge_differ : (h.dims ≡ v.dims → ⊥) → merge_of h v more ≡ Err Differ
   merge_differ other = rw (ne_eqb h.dims v.dims other)
 
   module _ (same : h.dims ≡ v.dims) where
-    pub merge_count : too_many h.count more ≡ true → merge_of h v more ≡ Refused 11 0
+    pub merge_count : too_many h.count more ≡ true → merge_of h v more ≡ Err Count
     merge_count many = rw (eq-eqb h.dims v.dims same, many)
 
     module _ (few : too_many h.count more ≡ false) where
-      pub merge_need : spare h (size v) ≡ false → merge_of h v more ≡ Refused 10 (capacity_for h.dims (h.len + size v))
+      pub merge_need : spare h (size v) ≡ false → merge_of h v more ≡ Err (Need (capacity_for h.dims (h.len + size v)))
       merge_need e = rw (eq-eqb h.dims v.dims same, few, needs_spare h (size v), e)
 
       pub merge_passes : spare h (size v) ≡ true → merge_of h v more ≡ Valid
@@ -75,11 +74,11 @@ module _ (h : Header) (v : Vector) (more : ℕ) where
   pub merge_passed : merge_of h v more ≡ Valid → (h.dims ≡ v.dims) × (too_many h.count more ≡ false) × (spare h (size v) ≡ true)
   merge_passed e =
       let c = capacity_for h.dims (h.len + size v) in
-      let need = refuse (needs h (size v)) NEED c Valid in
-      let few = refuse (too_many h.count more) COUNT 0 need in
-      let a = refuse_valid (not (eqb h.dims v.dims)) DIFFER 0 few e in
-      let b = refuse_valid (too_many h.count more) COUNT 0 need a.1 in
-      let d = refuse_valid (needs h (size v)) NEED c Valid b.1 in (
+      let need = refuse (needs h (size v)) (Need c) Valid in
+      let few = refuse (too_many h.count more) Count need in
+      let a = refuse_valid (not (eqb h.dims v.dims)) Differ few e in
+      let b = refuse_valid (too_many h.count more) Count need a.1 in
+      let d = refuse_valid (needs h (size v)) (Need c) Valid b.1 in (
         eqb-true h.dims v.dims (not-false (eqb h.dims v.dims) a.0),
         b.0,
         not-false (spare h (size v)) (sym (needs_spare h (size v)) ∙ d.0),
@@ -131,19 +130,28 @@ module _ (h : Header) (p : Pair) (v : Vector) (more : ℕ) (begun : h.begun ≡ 
 
   pub merge_done : too_many h.count more ≡ false → spare h (size v) ≡ true → {m : Both} {yi : List ℕ} {yv : List Float}
       → Summed (lies h p v.dims) m yi yv
-      → Acts h (merge_of h v more) (merged h p v more) p
-      (Done (header h.start h.length true v.dims m.len h.capacity (h.count + more)) m.turns)
+      → Acts h (merge_of h v more) (merged h p v more) p (Ok m.turns)
+      (header h.start h.length h.begun h.dims m.len h.capacity (h.count + more))
       (pair (lent h.start (whole h) p.indexes yi) (lent h.start (whole h) p.values yv))
   merge_done few e {m} {yi} {yv} grown =
       let i = sure.inside in
       let f = sure.fair in
+      let d = merged h p v more in
       let sum = joins Add (held h p) v in
       let w : Summed (held h p) m yi yv = subst (λ (a : Vector). Summed a m yi yv) is_held grown in
       let many : length sum.values ≡ size sum = as_many (join_at Add (held h p) v) h.dims in
-      let told : Done (merged h p v more).header (merged h p v more).turns
-      ≡ Done (header h.start h.length true v.dims m.len h.capacity (h.count + more)) m.turns =
-      rw (w.count, w.turned, ← same) in
-      rw (← told)
-      (acts_done (merged h p v more) (merge_passes h v more same few e)
+      let turns : m.turns ≡ d.turns = w.turned in
+      let same : header h.start h.length h.begun h.dims m.len h.capacity (h.count + more) ≡ d.header =
+      ap₂ (λ (b : Bool) (n : ℕ). header h.start h.length b h.dims n h.capacity (h.count + more)) begun w.count
+      in
+      subst
+      (λ (g : Header).
+      Acts h (merge_of h v more) d p (Ok m.turns) g (pair (lent h.start (whole h) p.indexes yi) (lent h.start (whole h) p.values yv)))
+      (sym same)
+      (rw turns
+      (acts_done d passes
       (stands_lent {k = whole h} (omega (arith, i.indexes)) (omega (arith, f.fits)) w.fits w.indexes)
-      (stands_lent {k = whole h} (omega (arith, i.values)) (omega (arith, f.fits)) (omega (arith, w.fits)) w.values))
+      (stands_lent {k = whole h} (omega (arith, i.values)) (omega (arith, f.fits)) (omega (arith, w.fits)) w.values)))
+    where
+      passes : merge_of h v more ≡ Valid
+      passes = merge_passes h v more same few e

@@ -7,9 +7,10 @@ use mathlib.Core.Path.{◌≡◌, refl, sym, ap₂}
 use lib.Dec.{ltb}
 use lib.ListN.{length}
 use borrow.Author.Tests.{ltb-false}
-use Rattle.refusal.specs.Numbers.{ROOM}
-use Rattle.refusal.specs.declared.Checked.{Checked}
-use Rattle.refusal.specs.declared.Checked.TheVariants.{Valid, Refused}
+use Rattle.std.specs.Prelude.{Result, Ok, Err}
+use Rattle.refusal.specs.Answers.{Checked, Valid}
+use Rattle.refusal.specs.declared.Refusal.{Refusal}
+use Rattle.refusal.specs.declared.Refusal.TheVariants.{Room}
 use Rattle.refusal.proofs.Chains.{next_valid, refuse_valid}
 use Rattle.sparse.specs.Vectors.{Vector, vector, size}
 use Rattle.sparse.specs.Calls.{checked_of}
@@ -28,8 +29,6 @@ use Rattle.aggregate_svecf32.specs.States.{held, state_of}
 use Rattle.aggregate_svecf32.specs.Calls.{Deed, Acts, begin_of, begun, merge_of, merged, take_of, taken}
 use Rattle.aggregate_svecf32.specs.Calls.{row_of, Rows, combine_of, combined, Combines, move_of, moved, Moves}
 use Rattle.aggregate_svecf32.specs.declared.Header.{Header}
-use Rattle.aggregate_svecf32.specs.declared.Told.{Told}
-use Rattle.aggregate_svecf32.specs.declared.Told.TheVariants.{Done, Refused as Kept}
 use Rattle.aggregate_svecf32.proofs.Consistent.{Inside, state_inside, state_sure, fair_state}
 use Rattle.aggregate_svecf32.proofs.Joined.{room_or_all, merge_passed}
 use Rattle.aggregate_svecf32.proofs.Moved.{moving, sure_few}
@@ -50,9 +49,10 @@ pub record Fits (d : Deed) (p : Pair) : Type 0 where
   pub most : d.header.count ≤ most_rows
   pub sound : Sound d.vector
 
--- the header of a deed is handed back, has begun, passes its tests in the lists q, and holds the vector of the deed
-pub record Keeps (d : Deed) (r : Told) (q : Pair) : Type 0 where
-  pub told : r ≡ Done d.header d.turns
+-- the header of a deed is the state's, has begun, passes its tests in the lists q, and holds the vector of the deed
+pub record Keeps (d : Deed) (r : Result ℕ Refusal) (h' : Header) (q : Pair) : Type 0 where
+  pub told : r ≡ Ok d.turns
+  pub header : h' ≡ d.header
   pub begun : d.header.begun ≡ true
   pub state : state_of d.header q ≡ Valid
   pub holds : held d.header q ≡ d.vector
@@ -65,14 +65,18 @@ held_stands g {w = w} d n even is vs =
     rw (d, n) (ap₂ (vector w.dims) is.here (rw even vs.here))
 
 -- after a refusal the state and the lists are as they were
-pub acts_kept : {h : Header} {due : Checked} {d : Deed} {p : Pair} {r : Told} {q : Pair} {n c : ℕ} → Acts h due d p r q → due ≡ Refused n c
-    → (r ≡ Kept h n c) × (q ≡ p)
-acts_kept acts e = (rw e at acts.answer.answer, ap₂ pair (rw e at acts.indexes) (rw e at acts.values))
+pub acts_kept : {h : Header} {due : Checked} {d : Deed} {p : Pair} {r : Result ℕ Refusal} {h' : Header} {q : Pair} {x : Refusal} → Acts h due d p r h' q → due ≡ Err x
+    → (r ≡ Err x) × (h' ≡ h) × (q ≡ p)
+acts_kept acts e = (rw e at acts.answer, rw e at acts.header, ap₂ pair (rw e at acts.indexes) (rw e at acts.values))
 
 -- where the tests find nothing the vector stands in the lists, and the state passes
-module _ {h : Header} {due : Checked} {d : Deed} {p : Pair} {r : Told} {q : Pair} (acts : Acts h due d p r q) (e : due ≡ Valid) where
-  pub acts_told : r ≡ Done d.header d.turns
-  acts_told = rw e at acts.answer.answer
+module _ {h : Header} {due : Checked} {d : Deed} {p : Pair} {r : Result ℕ Refusal} {h' : Header} {q : Pair} (acts : Acts h due d p r h' q)
+    (e : due ≡ Valid) where
+  pub acts_told : r ≡ Ok d.turns
+  acts_told = rw e at acts.answer
+
+  pub acts_header : h' ≡ d.header
+  acts_header = rw e at acts.header
 
   pub acts_indexes : Stands d.header.start d.room d.vector.indexes p.indexes q.indexes
   acts_indexes = rw e at acts.indexes
@@ -80,7 +84,7 @@ module _ {h : Header} {due : Checked} {d : Deed} {p : Pair} {r : Told} {q : Pair
   pub acts_values : Stands d.header.start d.room d.vector.values p.values q.values
   acts_values = rw e at acts.values
 
-  pub fits_keeps : Fits d p → Keeps d r q
+  pub fits_keeps : Fits d p → Keeps d r h' q
   fits_keeps f =
       let is = acts_indexes in
       let vs = acts_values in
@@ -88,6 +92,7 @@ module _ {h : Header} {due : Checked} {d : Deed} {p : Pair} {r : Told} {q : Pair
       let e : held d.header q ≡ d.vector = held_stands d.header f.dims f.len f.sound.even is vs in
       record {
         told = acts_told;
+        header = acts_header;
         begun = f.begun;
         state = fair_state d.header q f.begun
             (record { indexes = omega (arith, is.long, i.indexes); values = omega (arith, vs.long, i.values) })
@@ -119,7 +124,7 @@ module _ (h : Header) (p : Pair) (v : Vector) (more : ℕ) (state : state_of h p
         capacity = cap_self v.dims (size v);
         short = omega arith;
         within = cap_le v.dims (size v) (size_most row);
-        fits = ltb-false h.length c (refuse_valid (ltb h.length c) ROOM c Valid e).0;
+        fits = ltb-false h.length c (refuse_valid (ltb h.length c) (Room c) Valid e).0;
         some = some;
         most = most;
         sound = row;
@@ -204,23 +209,24 @@ module _ (h : Header) (p : Pair) where
       }
 
   -- so a state that is handed back passes
-  pub row_keeps : (v : Vector) {r : Told} {q : Pair} → Rows h p v r q → row_of h p v ≡ Valid → Keeps (taken h p v 1) r q
+  pub row_keeps : (v : Vector) {r : Result ℕ Refusal} {h' : Header} {q : Pair} → Rows h p v r h' q → row_of h p v ≡ Valid
+      → Keeps (taken h p v 1) r h' q
   row_keeps v acts e = fits_keeps acts e (row_fits v e)
 
-  pub move_keeps : (n : ℕ) (q : Pair) (start long : ℕ) {r : Told} {o : Pair} → Moves h p n q start long r o → move_of h p n q start long ≡ Valid
-      → Keeps (moved h p n start long) r o
+  pub move_keeps : (n : ℕ) (q : Pair) (start long : ℕ) {r : Result ℕ Refusal} {h' : Header} {o : Pair} → Moves h p n q start long r h' o
+      → move_of h p n q start long ≡ Valid → Keeps (moved h p n start long) r h' o
   move_keeps n q start long acts e = fits_keeps acts e (moved_fits n q start long e)
 
-  module _ (g : Header) (o : Pair) {r : Told} {q : Pair} (acts : Combines h p g o r q) (e : combine_of h p g o ≡ Valid) where
-    pub combine_keeps : g.begun ≡ true → Keeps (combined h p g o) r q
+  module _ (g : Header) (o : Pair) {r : Result ℕ Refusal} {h' : Header} {q : Pair} (acts : Combines h p g o r h' q) (e : combine_of h p g o ≡ Valid) where
+    pub combine_keeps : g.begun ≡ true → Keeps (combined h p g o) r h' q
     combine_keeps t = fits_keeps acts e (combined_fits g o t e)
 
     -- a second state without rows changes nothing
-    pub combine_leaves : g.begun ≡ false → (r ≡ Done h 0) × (q ≡ p)
+    pub combine_leaves : g.begun ≡ false → (r ≡ Ok 0) × (h' ≡ h) × (q ≡ p)
     combine_leaves t =
         let is = rw t at (acts_indexes acts e) in
         let vs = rw t at (acts_values acts e) in
-        (rw t at (acts_told acts e), ap₂ pair (stands_none is) (stands_none vs))
+        (rw t at (acts_told acts e), rw t at (acts_header acts e), ap₂ pair (stands_none is) (stands_none vs))
 
     -- so in both cases
     pub combine_passes : state_of (combined h p g o).header q ≡ Valid
@@ -228,4 +234,4 @@ module _ (h : Header) (p : Pair) where
       where
         go : (b : Bool) → g.begun ≡ b → state_of (combined h p g o).header q ≡ Valid
         go true t = (combine_keeps t).state
-        go false t = rw (t, (combine_leaves t).1) (combine_tests g o e).1
+        go false t = rw (t, (combine_leaves t).2) (combine_tests g o e).1

@@ -1,6 +1,6 @@
 -- What the inner calls of the aggregate are handed, and what they promise to the calls above them. A user's promises do not cite these.
 use Rattle.std.specs.Prelude.{◌≡◌}
-use Rattle.refusal.specs.declared.Checked.TheVariants.{Valid}
+use Rattle.refusal.specs.Answers.{Valid}
 use Rattle.sparse.specs.Vectors.{Vector}
 use Rattle.sparse.specs.Sound.{Sound}
 use Rattle.regions.specs.Regions.{Pair}

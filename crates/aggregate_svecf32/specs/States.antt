@@ -1,9 +1,7 @@
 -- Document 01, "Aggregate states": what a header says of its region, and when it is consistent.
 use Rattle.std.specs.Prelude.{ℕ, Bool, false, not, cond, List, [], ◌∷◌, eqb, get_or}
-use Rattle.refusal.specs.Numbers.{ROOM, STATE}
-use Rattle.refusal.specs.Answers.{refuse}
-use Rattle.refusal.specs.declared.Checked.{Checked}
-use Rattle.refusal.specs.declared.Checked.TheVariants.{Valid}
+use Rattle.refusal.specs.Answers.{Checked, Valid, refuse}
+use Rattle.refusal.specs.declared.Refusal.TheVariants.{Room, State}
 use Rattle.places.specs.Below.{one}
 use Rattle.sparse.specs.Vectors.{Vector, vector}
 use Rattle.regions.specs.Regions.{Pair, part, inside}
@@ -44,9 +42,9 @@ all_zero h = zeros h.dims h.len h.capacity h.count
 unfoldable pub consistent : Header → Pair → Bool
 consistent h p = cond h.begun (begun_fairly h p) (all_zero h)
 
--- "then the region inside both lists (ROOM), STATE": ROOM carries "the region length"
+-- "then the region inside both lists (ROOM), STATE": Room carries "the region length"
 unfoldable pub state_of : Header → Pair → Checked
 state_of h p =
-    refuse (not (inside h.start h.length p)) ROOM h.length
-    (refuse (not (consistent h p)) STATE 0
+    refuse (not (inside h.start h.length p)) (Room h.length)
+    (refuse (not (consistent h p)) State
     Valid)

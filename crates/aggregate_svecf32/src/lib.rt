@@ -1,26 +1,28 @@
 // Aggregate states: sums and averages of sparse f32 rows. A state lives in a region that may start
-// anywhere in a lent pair of lists, and its header goes in by value and comes back in the answer. Every
-// call tests all it is given; a refusal hands back the header and leaves the lent lists as they were.
+// anywhere in a lent pair of lists. Every call tests all it is given; a refusal leaves the header and the lent lists as
+// they were.
 
 #![tactic(auto)]
 
-mod moving;
 mod states;
 mod taking;
-mod writing;
 
 ghost use Rattle.std.specs.Prelude.{◌≡◌};
 ghost use Rattle.refusal.specs.Answers.{Checks};
-ghost use Rattle.sparse.specs.Vectors.{vector};
+ghost use Rattle.sparse.specs.Vectors.{seen};
 ghost use Rattle.regions.specs.Capacity.{capacity_for};
-ghost use Rattle.regions.specs.Regions.{pair};
+ghost use Rattle.regions.specs.Regions.{pair, both};
 ghost use Rattle.aggregate_svecf32.specs.States.{fresh, state_of};
 ghost use Rattle.aggregate_svecf32.specs.Calls.{Rows, Combines, Moves, Sums, Averages};
 
-use refusal::{Checked, Written};
+use refusal::{Refusal, Written};
+use regions::Lists;
+use sparse::SVectBorrowed;
 
 // A state: the region it owns of the lent lists, from `start` for `length`; and, if it has begun, the
-// dims, the number of entries in front of its region, how many it can hold, and how many rows came in.
+// dims, the number of entries in front of its region, how many it can hold, and how many rows came in. These are plain
+// numbers, and 0 where it has not begun: a header comes from C as seven numbers, and those that do not fit together are
+// a refusal of `check`.
 #[derive(Clone, Copy)]
 pub struct Header {
     pub start: usize,
@@ -32,21 +34,13 @@ pub struct Header {
     pub count: u64,
 }
 
-// What `row`, `combine` and `move_to` answer: the new header and the turns; or the header as it was, a
-// number and a place.
-#[derive(Drop)]
-pub enum Told {
-    Done(Header, usize),
-    Refused(Header, u32, usize),
-}
-
 // A state without rows.
 pub fn fresh(start: usize, length: usize) -> Header
     ensures { result ≡ fresh start length }
 {
     Header {
-        start: start,
-        length: length,
+        start,
+        length,
         begun: false,
         dims: 0,
         len: 0,
@@ -65,128 +59,123 @@ pub fn capacity(dims: u32, n: usize) -> usize
 
 impl Header {
     // Whether the state's region lies inside its lists and the header is consistent with what stands
-    // there. Refuses with ROOM, STATE.
-    pub fn check(self, ai: &[u32], av: &[f32]) -> Checked
-        ensures { Checks (state_of self (pair ai.now av.now)) result }
+    // there. Refuses with Room, State.
+    pub fn check(self, lists: Lists<'_>) -> Result<(), Refusal>
+        ensures { Checks (state_of self (both lists.entry)) result }
     {
-        if !regions::lies_inside(self.start, self.length, ai.len(), av.len()) {
-            return Checked::Refused(refusal::ROOM, self.length);
+        if !regions::lies_inside(
+            self.start,
+            self.length,
+            lists.indexes.len(),
+            lists.values.len(),
+        ) {
+            return Err(Refusal::Room(self.length));
         }
-        if !states::is_consistent(self, ai, av) {
-            return Checked::Refused(refusal::STATE, 0);
+        if !self.is_consistent(lists) {
+            return Err(Refusal::State);
         }
-        Checked::Valid
+        Ok(())
     }
 
-    // Adds a row, and answers the new header and the turns. Refuses the row as `sparse::check` does,
-    // then as `check`, and then with DIFFER, COUNT, NEED, ROOM.
-    pub fn row(self, ai: &mut [u32], av: &mut [f32], dims: u32, bi: &[u32], bv: &[f32]) -> Told
-        ensures { Rows self (pair ai.old av.old) (vector dims bi.now bv.now) result (pair ai.new av.new) }
+    // Adds a row, and answers the turns. Refuses the row as its `check` does, then as this one's, and then with
+    // Differ, Count, Need, Room.
+    pub fn row(
+        &mut self,
+        ai: &mut [u32],
+        av: &mut [f32],
+        row: SVectBorrowed<'_>,
+    ) -> Result<usize, Refusal>
+        ensures { Rows self.old (pair ai.old av.old) (seen row.entry) result self.new (pair ai.new av.new) }
     {
-        if let Checked::Refused(number, place) = sparse::check(dims, bi, bv) {
-            return Told::Refused(self, number, place);
-        }
-        if let Checked::Refused(number, place) = self.check(ai, av) {
-            return Told::Refused(self, number, place);
-        }
-        taking::take(self, ai, av, dims, bi, bv, 1)
+        row.check()?;
+        self.check(Lists {
+            indexes: ai,
+            values: av,
+        })?;
+        self.take(ai, av, row, 1)
     }
 
-    // Adds a second state, read from another pair of lists, and answers the new header and the turns.
-    // Refuses the second as `check` does, then the first, and then with DIFFER, COUNT, NEED, ROOM.
+    // Adds a second state, read from another pair of lists, and answers the turns. Refuses the second as `check` does,
+    // then the first, and then with Differ, Count, Need, Room.
     pub fn combine(
-        self,
+        &mut self,
         ai: &mut [u32],
         av: &mut [f32],
         other: Header,
-        bi: &[u32],
-        bv: &[f32],
-    ) -> Told
-        ensures { Combines self (pair ai.old av.old) other (pair bi.now bv.now) result (pair ai.new av.new) }
+        lists: Lists<'_>,
+    ) -> Result<usize, Refusal>
+        ensures { Combines self.old (pair ai.old av.old) other (both lists.entry) result self.new (pair ai.new av.new) }
     {
-        if let Checked::Refused(number, place) = other.check(bi, bv) {
-            return Told::Refused(self, number, place);
-        }
-        if let Checked::Refused(number, place) = self.check(ai, av) {
-            return Told::Refused(self, number, place);
-        }
+        other.check(lists)?;
+        self.check(Lists {
+            indexes: ai,
+            values: av,
+        })?;
         if !other.begun {
-            return Told::Done(self, 0);
+            return Ok(0);
         }
-        let start = other.start;
-        let end = start + other.len;
-        taking::take(
-            self,
-            ai,
-            av,
-            other.dims,
-            &bi[start..end],
-            &bv[start..end],
-            other.count,
-        )
+        let held = lists.vector(other.dims, other.start, other.len);
+        self.take(ai, av, held, other.count)
     }
 
     // Copies the state to a region in another pair of lists that has the capacity for `more` entries
-    // more, and answers its header there. Refuses as `check` does, and then with NOT_BEGUN, DIMS,
-    // NOT_NEEDED, ROOM.
+    // more, and makes its header that of the region; it takes no turns. Refuses as `check` does, and then with NotBegun,
+    // Dims, NotNeeded, Room.
     pub fn move_to(
-        self,
-        ai: &[u32],
-        av: &[f32],
+        &mut self,
+        lists: Lists<'_>,
         more: usize,
         ci: &mut [u32],
         cv: &mut [f32],
         start: usize,
         length: usize,
-    ) -> Told
-        ensures { Moves self (pair ai.now av.now) more (pair ci.old cv.old) start length result (pair ci.new cv.new) }
+    ) -> Result<usize, Refusal>
+        ensures { Moves self.old (both lists.entry) more (pair ci.old cv.old) start length result self.new (pair ci.new cv.new) }
     {
-        if let Checked::Refused(number, place) = moving::ready(
-            self,
-            ai,
-            av,
-            more,
-            ci.len(),
-            cv.len(),
+        let to = Lists {
+            indexes: ci,
+            values: cv,
+        };
+        self.ready_to_move(lists, more, to, start, length)?;
+        regions::copy(lists, self.start, self.len, ci, cv, start);
+        let capacity = regions::capacity(self.dims, self.len + more);
+        *self = Header {
             start,
             length,
-        ) {
-            return Told::Refused(self, number, place);
-        }
-        regions::copy(ai, av, self.start, self.len, ci, cv, start);
-        let capacity = regions::capacity(self.dims, self.len + more);
-        states::done(start, length, self.dims, self.len, capacity, self.count, 0)
+            capacity,
+            ..*self
+        };
+        Ok(0)
     }
 
     // Writes the sum of the rows to the front of `oi` and `ov`, and answers its dims and entries. The
-    // state stays as it is. Refuses as `check` does, and then with NOT_BEGUN, ROOM. So does the next.
-    pub fn sum(self, ai: &[u32], av: &[f32], oi: &mut [u32], ov: &mut [f32]) -> Written
-        ensures { Sums self (pair ai.now av.now) oi.old ov.old result oi.new ov.new }
+    // state stays as it is. Refuses as `check` does, and then with NotBegun, Room. So does the next.
+    pub fn sum(self, lists: Lists<'_>, oi: &mut [u32], ov: &mut [f32]) -> Result<Written, Refusal>
+        ensures { Sums self (both lists.entry) oi.old ov.old result oi.new ov.new }
     {
-        if let Checked::Refused(number, place) = writing::ready(self, ai, av, oi.len(), ov.len()) {
-            return Written::Refused(number, place);
-        }
-        regions::copy(ai, av, self.start, self.len, oi, ov, 0);
-        Written::Done(self.dims, self.len)
+        self.ready_to_write(lists, oi.len(), ov.len())?;
+        regions::copy(lists, self.start, self.len, oi, ov, 0);
+        Ok(Written {
+            dims: self.dims,
+            len: self.len,
+        })
     }
 
     // Writes the sum divided by the number of rows.
-    pub fn average(self, ai: &[u32], av: &[f32], oi: &mut [u32], ov: &mut [f32]) -> Written
-        ensures { Averages self (pair ai.now av.now) oi.old ov.old result oi.new ov.new }
+    pub fn average(
+        self,
+        lists: Lists<'_>,
+        oi: &mut [u32],
+        ov: &mut [f32],
+    ) -> Result<Written, Refusal>
+        ensures { Averages self (both lists.entry) oi.old ov.old result oi.new ov.new }
     {
-        if let Checked::Refused(number, place) = writing::ready(self, ai, av, oi.len(), ov.len()) {
-            return Written::Refused(number, place);
-        }
-        let start = self.start;
-        let end = start + self.len;
-        let n = averages::divide(
-            self.dims,
-            &ai[start..end],
-            &av[start..end],
-            self.count,
-            oi,
-            ov,
-        );
-        Written::Done(self.dims, n)
+        self.ready_to_write(lists, oi.len(), ov.len())?;
+        let held = lists.vector(self.dims, self.start, self.len);
+        let n = averages::divide(held, self.count, oi, ov);
+        Ok(Written {
+            dims: self.dims,
+            len: n,
+        })
     }
 }

@@ -2,88 +2,99 @@
 // their tests.
 
 ghost use Rattle.std.specs.Prelude.{true, ◌≡◌};
-ghost use Rattle.sparse.specs.Vectors.{vector};
+ghost use Rattle.sparse.specs.Vectors.{seen};
 ghost use Rattle.regions.specs.Regions.{pair};
 ghost use Rattle.aggregate_svecf32.specs.Calls.{Acts, begin_of, begun, merge_of, merged, take_of, taken};
 ghost use Rattle.aggregate_svecf32.specs.Loops.{Given};
 
-use super::{Header, Told, states};
+use super::Header;
+use refusal::Refusal;
+use regions::Lists;
+use sparse::SVectBorrowed;
 
-// A state that has not begun takes the entries as they are.
-fn begin(
-    h: Header,
-    ai: &mut [u32],
-    av: &mut [f32],
-    dims: u32,
-    bi: &[u32],
-    bv: &[f32],
-    count: u64,
-) -> Told
-    requires { Given h (pair ai.old av.old) (vector dims bi.now bv.now) }
-    ensures { Acts h (begin_of h (vector dims bi.now bv.now)) (begun h (vector dims bi.now bv.now) count) (pair ai.old av.old) result (pair ai.new av.new) }
-{
-    let capacity = regions::capacity(dims, bi.len());
-    if h.length < capacity {
-        return Told::Refused(h, refusal::ROOM, capacity);
+impl Header {
+    // A state that has not begun takes the entries as they are.
+    fn begin(
+        &mut self,
+        ai: &mut [u32],
+        av: &mut [f32],
+        v: SVectBorrowed<'_>,
+        count: u64,
+    ) -> Result<usize, Refusal>
+        requires { Given self.old (pair ai.old av.old) (seen v) }
+        ensures { Acts self.old (begin_of self.old (seen v.entry)) (begun self.old (seen v.entry) count) (pair ai.old av.old) result self.new (pair ai.new av.new) }
+    {
+        let SVectBorrowed {
+            dims,
+            indexes,
+            values,
+        } = v;
+        let len = indexes.len();
+        let capacity = regions::capacity(dims, len);
+        if self.length < capacity {
+            return Err(Refusal::Room(capacity));
+        }
+        regions::copy(Lists { indexes, values }, 0, len, ai, av, self.start);
+        *self = Header {
+            begun: true,
+            dims,
+            len,
+            capacity,
+            count,
+            ..*self
+        };
+        Ok(len)
     }
-    regions::copy(bi, bv, 0, bi.len(), ai, av, h.start);
-    states::done(h.start, h.length, dims, bi.len(), capacity, count, bi.len())
-}
 
-// A state that has begun merges the entries, and its count rises by `more`.
-fn merge(
-    h: Header,
-    ai: &mut [u32],
-    av: &mut [f32],
-    dims: u32,
-    bi: &[u32],
-    bv: &[f32],
-    more: u64,
-) -> Told
-    requires begun_value { h.begun ≡ true }
-    requires given { Given h (pair ai.old av.old) (vector dims bi.now bv.now) }
-    ensures { Acts h (merge_of h (vector dims bi.now bv.now) more) (merged h (pair ai.old av.old) (vector dims bi.now bv.now) more) (pair ai.old av.old) result (pair ai.new av.new) }
-{
-    if h.dims != dims {
-        return Told::Refused(h, refusal::DIFFER, 0);
+    // A state that has begun merges the entries, and its count rises by `more`.
+    fn merge(
+        &mut self,
+        ai: &mut [u32],
+        av: &mut [f32],
+        v: SVectBorrowed<'_>,
+        more: u64,
+    ) -> Result<usize, Refusal>
+        requires begun { self.old.begun ≡ true }
+        requires given { Given self.old (pair ai.old av.old) (seen v) }
+        ensures { Acts self.old (merge_of self.old (seen v.entry) more) (merged self.old (pair ai.old av.old) (seen v.entry) more) (pair ai.old av.old) result self.new (pair ai.new av.new) }
+    {
+        if self.dims != v.dims {
+            return Err(Refusal::Differ);
+        }
+        if self.numbers().are_too_many(more) {
+            return Err(Refusal::Count);
+        }
+        let count = self.count + more;
+        let n = v.indexes.len();
+        if !self.has_room(n) {
+            let wanted = regions::capacity(self.dims, self.len + n);
+            return Err(Refusal::Need(wanted));
+        }
+        let start = self.start;
+        let end = start + self.length;
+        let si = &mut ai[start..end];
+        let sv = &mut av[start..end];
+        let m = in_place::merge_in_place(si, sv, self.len, self.capacity, v);
+        self.len = m.len;
+        self.count = count;
+        Ok(m.turns)
     }
-    if headers::are_too_many(h.count, more) {
-        return Told::Refused(h, refusal::COUNT, 0);
-    }
-    let count = h.count + more;
-    if !headers::has_room(h.dims, h.len, h.capacity, bi.len()) {
-        let wanted = regions::capacity(h.dims, h.len + bi.len());
-        return Told::Refused(h, refusal::NEED, wanted);
-    }
-    let start = h.start;
-    let end = start + h.length;
-    let m = in_place::merge_in_place(
-        dims,
-        &mut ai[start..end],
-        &mut av[start..end],
-        h.len,
-        h.capacity,
-        bi,
-        bv,
-    );
-    states::done(h.start, h.length, dims, m.len, h.capacity, count, m.turns)
-}
 
-// The state takes the entries in, and its count rises by `more`.
-pub fn take(
-    h: Header,
-    ai: &mut [u32],
-    av: &mut [f32],
-    dims: u32,
-    bi: &[u32],
-    bv: &[f32],
-    more: u64,
-) -> Told
-    requires { Given h (pair ai.old av.old) (vector dims bi.now bv.now) }
-    ensures { Acts h (take_of h (vector dims bi.now bv.now) more) (taken h (pair ai.old av.old) (vector dims bi.now bv.now) more) (pair ai.old av.old) result (pair ai.new av.new) }
-{
-    if h.begun {
-        return merge(h, ai, av, dims, bi, bv, more);
+    // The state takes the entries in, and its count rises by `more`.
+    pub(crate) fn take(
+        &mut self,
+        ai: &mut [u32],
+        av: &mut [f32],
+        v: SVectBorrowed<'_>,
+        more: u64,
+    ) -> Result<usize, Refusal>
+        requires { Given self.old (pair ai.old av.old) (seen v) }
+        ensures { Acts self.old (take_of self.old (seen v.entry) more) (taken self.old (pair ai.old av.old) (seen v.entry) more) (pair ai.old av.old) result self.new (pair ai.new av.new) }
+    {
+        if self.begun {
+            self.merge(ai, av, v, more)
+        } else {
+            self.begin(ai, av, v, more)
+        }
     }
-    begin(h, ai, av, dims, bi, bv, more)
 }

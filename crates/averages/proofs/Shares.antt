@@ -1,14 +1,15 @@
 -- The average of a vector: a walk over its entries and none of another vector writes it, it passes its check, and it holds at each place the
 -- quotient of what stood there. Assumes nothing.
-use Prim.Native.Nat.{ℕ, ◌+◌, ◌≤◌, ◌<◌}
+use Prim.Native.Nat.{ℕ, suc, ◌+◌, ◌-◌, ◌≤◌, ◌<◌}
 use native.Mathlib.Omega.{arith}
 use mathlib.Core.Bool.{true, false}
-use mathlib.Core.List.{List, []}
+use mathlib.Core.List.{List, [], ◌∷◌, ◌++◌, append_assoc}
 use mathlib.Core.Path.{◌≡◌, refl, sym, ap, ◌∙◌}
-use lib.ListN.{length, get_or, set}
+use lib.ListN.{length, get_or, set, take, drop}
+use lib.Seq.{drop-cons, drop-drop, paste, paste-zero, paste-suc}
 use lib.IntN.{pos}
 use lib.Ieee.{Float, binary32, of_int, div, nan}
-use Rattle.refusal.specs.declared.Checked.TheVariants.{Valid}
+use Rattle.refusal.specs.Answers.{Valid}
 use Rattle.sparse.specs.Cells.{is_zero, keep}
 use Rattle.sparse.specs.Vectors.{Vector, vector, size, at}
 use Rattle.sparse.specs.Calls.{checked_of}
@@ -20,9 +21,9 @@ use Rattle.sparse.proofs.Meaning.{keep_nonzero, at_below, vector_valid}
 use Rattle.walks.specs.Walk.{Turned, Put}
 use Rattle.walks.proofs.Stores.{put_most, Written, written_none, written_empty, written_lengths, written_more}
 use Rattle.walks.proofs.Turns.{to_left}
-use Rattle.walks.proofs.Walk.{Quiet, Going, going_start, going_more, going_end, left_cell, place_below}
+use Rattle.walks.proofs.Walks.{Quiet, Going, going_start, going_more, going_end, left_cell, place_below}
 use Rattle.averages.specs.Averages.{over, shared}
-use Rattle.averages.specs.Loops.{NoneZero, PutFour, Divides, Divided}
+use Rattle.averages.specs.Loops.{NoneZero, Divides, Divided}
 
 -- what the average holds at the place k
 abbrev pub over_at : ℕ → Vector → ℕ → Cell
@@ -31,7 +32,7 @@ over_at count v k = over count (at v k)
 -- ---- what the average means
 
 over_nonzero : (count : ℕ) (x : Cell) (w : Float) → over count x ≡ Full w → is_zero w ≡ false
-over_nonzero count Empty w e = let q : ◌≡◌ {A = ℕ} 0 1 = cc in absurd (omega arith)
+over_nonzero count Empty w e = absurd cc
 over_nonzero count (Full v) w e = keep_nonzero (div binary32 v (of_int binary32 (pos count))) w e
 
 module _ (count : ℕ) (v : Vector) where
@@ -100,6 +101,40 @@ module _ {count : ℕ} {v : Vector} {oi : List ℕ} {ov : List Float} (r : Divid
       let w = going_end r.sound (nothing_sound r.sound) d.going quiet (omega arith) in
       record { count = sym w.count; indexes = w.indexes; values = w.values }
 
+-- ---- four entries at once
+
+module _ {ℓ} {A : Type ℓ} where
+  -- the four elements from p on
+  part_four : (p : ℕ) (l : List A) (z : A) → p + 4 ≤ length l
+      → take 4 (drop p l) ≡ get_or l p z ∷ get_or l (p + 1) z ∷ get_or l (p + 2) z ∷ get_or l (p + 3) z ∷ []
+  part_four p l z h =
+      let a = drop-cons l p z (omega arith) in
+      let b = drop-cons l (suc p) z (omega arith) in
+      let c = drop-cons l (suc (suc p)) z (omega arith) in
+      let d = drop-cons l (suc (suc (suc p))) z (omega arith) in
+      let i : p + 1 ≡ suc p = omega arith in
+      let j : p + 2 ≡ suc (suc p) = omega arith in
+      let k : p + 3 ≡ suc (suc (suc p)) = omega arith in
+      rw (a, b, c, d, i, j, k)
+
+  -- a list whose four places from n on were lent, and that came back with a, b, c and d, is as after four stores
+  lent_four : (n : ℕ) (l : List A) (a b c d : A) → n + 4 ≤ length l
+      → take n l ++ ((a ∷ b ∷ c ∷ d ∷ []) ++ drop 4 (drop n l)) ≡ set (set (set (set l n a) (n + 1) b) (n + 2) c) (n + 3) d
+  lent_four n l a b c d h =
+      let s = a ∷ b ∷ c ∷ d ∷ [] in
+      let i : n + 0 ≡ n = omega arith in
+      let zero : set l n a ≡ paste l n s 1 =
+      ap (λ (x : List A). set x n a) (paste-zero l n s) ∙ ap (λ (k : ℕ). set (paste l n s 0) k a) (sym i)
+      ∙ paste-suc l n s 0 a (omega arith) (omega arith)
+      in
+      sym
+      (ap (λ (x : List A). set (set (set x (n + 1) b) (n + 2) c) (n + 3) d) zero
+      ∙ ap (λ (x : List A). set (set x (n + 2) c) (n + 3) d) (paste-suc l n s 1 a (omega arith) (omega arith))
+      ∙ ap (λ (x : List A). set x (n + 3) d) (paste-suc l n s 2 a (omega arith) (omega arith))
+      ∙ paste-suc l n s 3 a (omega arith) (omega arith)
+      ∙ append_assoc (take n l) s (drop (n + 4) l)
+      ∙ ap (λ (x : List A). take n l ++ (s ++ x)) (sym (drop-drop 4 n l)))
+
 -- the value of the entry p, divided by a count
 abbrev quotient : ℕ → Vector → ℕ → Float
 quotient count v p = div binary32 (get_or v.values p nan) (of_int binary32 (pos count))
@@ -112,29 +147,30 @@ module _ {count : ℕ} {v : Vector} {oi : List ℕ} {ov : List Float} (r : Divid
   one_more {p = p} d h z p' n' e f =
       rw (e, f) (dividing_more r d h {z = Full (quotient count v p)} (rw z) (record { count = refl; indexes = refl; values = refl }))
 
-  -- and four
+  -- and four, of which both lists are lent places for, from n up to its end
   pub dividing_four : {oi' : List ℕ} {ov' : List Float} {p n : ℕ} → Dividing count v oi ov oi' ov' p n → p + 4 ≤ size v
       → NoneZero (quotient count v p) (quotient count v (p + 1)) (quotient count v (p + 2)) (quotient count v (p + 3)) true
-      → {n' : ℕ} {oi'' : List ℕ} {ov'' : List Float}
-      → PutFour (get_or v.indexes p 0) (get_or v.indexes (p + 1) 0) (get_or v.indexes (p + 2) 0) (get_or v.indexes (p + 3) 0)
-      (quotient count v p) (quotient count v (p + 1)) (quotient count v (p + 2)) (quotient count v (p + 3)) n oi' ov' n' oi'' ov''
-      → Dividing count v oi ov oi'' ov'' (p + 4) n'
-  dividing_four {p = p} {n} d h none put =
+      → {is : List ℕ} {vs : List Float} → is ≡ take (p + 4 - p) (drop p v.indexes)
+      → vs ≡ quotient count v p ∷ quotient count v (p + 1) ∷ quotient count v (p + 2) ∷ quotient count v (p + 3) ∷ []
+      → Dividing count v oi ov (take n oi' ++ (is ++ drop (n + 4 - n) (drop n oi'))) (take n ov' ++ (vs ++ drop (n + 4 - n) (drop n ov')))
+      (p + 4) (n + 4)
+  dividing_four {oi'} {ov'} {p} {n} d h none {is} {vs} e f =
       let z = none refl in
       let d1 = one_more d (omega arith) z.0 (p + 1) (n + 1) refl refl in
       let d2 = one_more d1 (omega arith) z.1 (p + 2) (n + 2) (omega arith) (omega arith) in
       let d3 = one_more d2 (omega arith) z.2 (p + 3) (n + 3) (omega arith) (omega arith) in
-      rw (put.count, put.indexes, put.values) (one_more d3 (omega arith) z.3 (p + 4) (n + 4) (omega arith) (omega arith))
-
--- four entries that were stored one after the other
-pub four_puts : {i j k l : ℕ} {a b c d : Float} {n x y z r : ℕ} {oi oi₁ oi₂ oi₃ oi₄ : List ℕ} {ov ov₁ ov₂ ov₃ ov₄ : List Float}
-    → Put (Full a) i n oi ov x oi₁ ov₁ → Put (Full b) j x oi₁ ov₁ y oi₂ ov₂ → Put (Full c) k y oi₂ ov₂ z oi₃ ov₃
-    → Put (Full d) l z oi₃ ov₃ r oi₄ ov₄ → PutFour i j k l a b c d n oi ov r oi₄ ov₄
-four_puts {n = n} {x} {y} {z} p q s t =
-    let y2 : y ≡ n + 2 = omega (arith, p.count, q.count) in
-    let z3 : z ≡ n + 3 = omega (arith, s.count) in
-    record {
-      count = omega (arith, t.count);
-      indexes = rw (t.indexes, s.indexes, q.indexes, p.indexes, p.count, y2, z3);
-      values = rw (t.values, s.values, q.values, p.values, p.count, y2, z3);
-    }
+      let long = dividing_lengths r d in
+      let most = d.going.walk.left.within in
+      let k : p + 4 - p ≡ 4 = omega arith in
+      let j : n + 4 - n ≡ 4 = omega arith in
+      let four : is ≡ get_or v.indexes p 0 ∷ get_or v.indexes (p + 1) 0 ∷ get_or v.indexes (p + 2) 0 ∷ get_or v.indexes (p + 3) 0 ∷ [] =
+      rw k at e ∙ part_four p v.indexes 0 h
+      in
+      rw (
+        j,
+        four,
+        f,
+        lent_four n oi' _ _ _ _ (omega (arith, d.few, r.room, long.0)),
+        lent_four n ov' _ _ _ _ (omega (arith, d.few, r.room', long.1)),
+      )
+      (one_more d3 (omega arith) z.3 (p + 4) (n + 4) (omega arith) (omega arith))

@@ -1,5 +1,5 @@
 -- What the walk that divides is handed, and what it promises to the call above it. A user's promises do not cite these.
-use Rattle.std.specs.Prelude.{ℕ, ◌+◌, ◌≤◌, Bool, true, false, List, ◌++◌, ◌≡◌, length, drop, set, Float}
+use Rattle.std.specs.Prelude.{ℕ, ◌≤◌, Bool, true, false, List, ◌++◌, ◌≡◌, length, drop, Float}
 use Rattle.sparse.specs.Cells.{is_zero}
 use Rattle.sparse.specs.Vectors.{Vector, size}
 use Rattle.sparse.specs.Sound.{Sound}
@@ -7,12 +7,6 @@ use Rattle.sparse.specs.Sound.{Sound}
 -- where r says so, none of four values is zero
 abbrev pub NoneZero : Float → Float → Float → Float → Bool → Type 0
 NoneZero a b c d r = r ≡ true → (is_zero a ≡ false) × (is_zero b ≡ false) × (is_zero c ≡ false) × (is_zero d ≡ false)
-
--- four values at the places i, j, k and l are the entries from n on
-pub record PutFour (i j k l : ℕ) (a b c d : Float) (n : ℕ) (oi : List ℕ) (ov : List Float) (r : ℕ) (oi' : List ℕ) (ov' : List Float) : Type 0 where
-  pub count : r ≡ n + 4
-  pub indexes : oi' ≡ set (set (set (set oi n i) (n + 1) j) (n + 2) k) (n + 3) l
-  pub values : ov' ≡ set (set (set (set ov n a) (n + 1) b) (n + 2) c) (n + 3) d
 
 -- a vector that passed, and room for its entries
 pub record Divides (v : Vector) (oi : List ℕ) (ov : List Float) : Type 0 where

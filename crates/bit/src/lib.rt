@@ -1,108 +1,105 @@
 // Counts of the ones of bit vectors, and word-wise combinations. Each public call tests the vectors it
-// is given, the left one first. What a bit vector is stands in `bits`, whose calls are passed on here.
+// is given, the left one first. What a bit vector is stands in `bits`, whose names are passed on here.
 
 #![tactic(auto)]
 
+ghost use Rattle.bits.specs.Vectors.{seen};
 ghost use Rattle.bit_words.specs.declared.Op.TheVariants.{And, Or, Xor};
 ghost use Rattle.bit.specs.Calls.{SumsOne, Sums, SumsBoth, Combines};
 
-pub use bit_words::Op;
-pub use bits::{check, check_each, check_pair, words_for};
-use refusal::{Checked, Written};
+pub use bit_words::{Op, Two};
+pub use bits::{BVectBorrowed, check_each, check_pair, words_for};
+use refusal::{Refusal, Written};
 
-// A count of ones, or a refusal.
-#[derive(Drop)]
-pub enum Count {
-    Ones(u32),
-    Refused(u32, usize),
-}
-
-// The ones of a AND b, and those of a OR b; or a refusal.
-#[derive(Drop)]
-pub enum Counts {
-    Ones(u32, u32),
-    Refused(u32, usize),
-}
-
-fn sum_of(op: Op, dims_a: u32, a: &[u64], dims_b: u32, b: &[u64]) -> Count
-    ensures { Sums op dims_a a.now dims_b b.now result }
+// The number of ones of a and b put together: what the three calls share that are named after the operation, as users know them.
+fn sum_of(op: Op, a: BVectBorrowed<'_>, b: BVectBorrowed<'_>) -> Result<u32, Refusal>
+    ensures { Sums op (seen a.entry) (seen b.entry) result }
 {
-    if let Checked::Refused(number, place) = check_pair(dims_a, a, dims_b, b) {
-        return Count::Refused(number, place);
-    }
-    Count::Ones(bit_words::ones_of(op, a, b))
+    check_pair(a, b)?;
+    Ok(bit_words::ones_of(op, a.data, b.data))
 }
 
-fn vector_of(op: Op, dims_a: u32, a: &[u64], dims_b: u32, b: &[u64], out: &mut [u64]) -> Written
-    ensures { Combines op dims_a a.now dims_b b.now out.old result out.new }
+// Writes a and b put together to the front of `out`: what the last three calls share.
+fn vector_of(
+    op: Op,
+    a: BVectBorrowed<'_>,
+    b: BVectBorrowed<'_>,
+    out: &mut [u64],
+) -> Result<Written, Refusal>
+    ensures { Combines op (seen a.entry) (seen b.entry) out.old result out.new }
 {
-    if let Checked::Refused(number, place) = check_pair(dims_a, a, dims_b, b) {
-        return Written::Refused(number, place);
+    check_pair(a, b)?;
+    let len = a.data.len();
+    if out.len() < len {
+        return Err(Refusal::Room(len));
     }
-    let n = a.len();
-    if out.len() < n {
-        return Written::Refused(refusal::ROOM, n);
-    }
-    bit_words::combine(op, a, b, out);
-    Written::Done(dims_a, n)
+    bit_words::combine(op, a.data, b.data, out);
+    Ok(Written { dims: a.dims, len })
 }
 
-// The number of ones of a. Refuses as `check` does.
-pub fn sum_of_x(dims: u32, a: &[u64]) -> Count
-    ensures { SumsOne dims a.now result }
+// The number of ones of a. Refuses as its `check` does.
+pub fn sum_of_x(a: BVectBorrowed<'_>) -> Result<u32, Refusal>
+    ensures { SumsOne (seen a.entry) result }
 {
-    if let Checked::Refused(number, place) = check(dims, a) {
-        return Count::Refused(number, place);
-    }
-    Count::Ones(bit_words::ones_of(Op::And, a, a))
+    a.check()?;
+    Ok(bit_words::ones_of(Op::And, a.data, a.data))
 }
 
 // The number of ones of a AND b. Refuses as `check_pair` does, and so do the next three.
-pub fn sum_of_and(dims_a: u32, a: &[u64], dims_b: u32, b: &[u64]) -> Count
-    ensures { Sums And dims_a a.now dims_b b.now result }
+pub fn sum_of_and(a: BVectBorrowed<'_>, b: BVectBorrowed<'_>) -> Result<u32, Refusal>
+    ensures { Sums And (seen a.entry) (seen b.entry) result }
 {
-    sum_of(Op::And, dims_a, a, dims_b, b)
+    sum_of(Op::And, a, b)
 }
 
-pub fn sum_of_or(dims_a: u32, a: &[u64], dims_b: u32, b: &[u64]) -> Count
-    ensures { Sums Or dims_a a.now dims_b b.now result }
+pub fn sum_of_or(a: BVectBorrowed<'_>, b: BVectBorrowed<'_>) -> Result<u32, Refusal>
+    ensures { Sums Or (seen a.entry) (seen b.entry) result }
 {
-    sum_of(Op::Or, dims_a, a, dims_b, b)
+    sum_of(Op::Or, a, b)
 }
 
-pub fn sum_of_xor(dims_a: u32, a: &[u64], dims_b: u32, b: &[u64]) -> Count
-    ensures { Sums Xor dims_a a.now dims_b b.now result }
+pub fn sum_of_xor(a: BVectBorrowed<'_>, b: BVectBorrowed<'_>) -> Result<u32, Refusal>
+    ensures { Sums Xor (seen a.entry) (seen b.entry) result }
 {
-    sum_of(Op::Xor, dims_a, a, dims_b, b)
+    sum_of(Op::Xor, a, b)
 }
 
 // The numbers of ones of a AND b and of a OR b, in one walk.
-pub fn sum_of_and_or(dims_a: u32, a: &[u64], dims_b: u32, b: &[u64]) -> Counts
-    ensures { SumsBoth dims_a a.now dims_b b.now result }
+pub fn sum_of_and_or(a: BVectBorrowed<'_>, b: BVectBorrowed<'_>) -> Result<Two, Refusal>
+    ensures { SumsBoth (seen a.entry) (seen b.entry) result }
 {
-    if let Checked::Refused(number, place) = check_pair(dims_a, a, dims_b, b) {
-        return Counts::Refused(number, place);
-    }
-    let two = bit_words::ones_of_both(a, b);
-    Counts::Ones(two.and, two.or)
+    check_pair(a, b)?;
+    Ok(bit_words::ones_of_both(a.data, b.data))
 }
 
 // Writes a AND b to the front of `out`, and answers its dims and words. Refuses as `check_pair` does,
-// and then with ROOM; a refusal leaves `out` as it was. So do the next two.
-pub fn vector_and(dims_a: u32, a: &[u64], dims_b: u32, b: &[u64], out: &mut [u64]) -> Written
-    ensures { Combines And dims_a a.now dims_b b.now out.old result out.new }
+// and then with Room; a refusal leaves `out` as it was. So do the next two.
+pub fn vector_and(
+    a: BVectBorrowed<'_>,
+    b: BVectBorrowed<'_>,
+    out: &mut [u64],
+) -> Result<Written, Refusal>
+    ensures { Combines And (seen a.entry) (seen b.entry) out.old result out.new }
 {
-    vector_of(Op::And, dims_a, a, dims_b, b, out)
+    vector_of(Op::And, a, b, out)
 }
 
-pub fn vector_or(dims_a: u32, a: &[u64], dims_b: u32, b: &[u64], out: &mut [u64]) -> Written
-    ensures { Combines Or dims_a a.now dims_b b.now out.old result out.new }
+pub fn vector_or(
+    a: BVectBorrowed<'_>,
+    b: BVectBorrowed<'_>,
+    out: &mut [u64],
+) -> Result<Written, Refusal>
+    ensures { Combines Or (seen a.entry) (seen b.entry) out.old result out.new }
 {
-    vector_of(Op::Or, dims_a, a, dims_b, b, out)
+    vector_of(Op::Or, a, b, out)
 }
 
-pub fn vector_xor(dims_a: u32, a: &[u64], dims_b: u32, b: &[u64], out: &mut [u64]) -> Written
-    ensures { Combines Xor dims_a a.now dims_b b.now out.old result out.new }
+pub fn vector_xor(
+    a: BVectBorrowed<'_>,
+    b: BVectBorrowed<'_>,
+    out: &mut [u64],
+) -> Result<Written, Refusal>
+    ensures { Combines Xor (seen a.entry) (seen b.entry) out.old result out.new }
 {
-    vector_of(Op::Xor, dims_a, a, dims_b, b, out)
+    vector_of(Op::Xor, a, b, out)
 }

@@ -1,17 +1,10 @@
 -- What the numbers of ones tell of Jaccard, whether two vectors without ones are alike or not. Assumes nothing.
-use Prim.Native.Nat.{ℕ}
-use mathlib.Core.Bool.{Bool, true, false, cond, true≢false}
-use mathlib.Core.List.{List}
-use mathlib.Core.Logic.{◌⊎◌, inl, inr}
-use mathlib.Core.Path.{◌≡◌, refl}
-use lib.Dec.{eqb}
-use lib.IntN.{pos}
-use lib.Ieee.{Float, binary32, of_bits, of_int, sub, div}
-use Rattle.refusal.specs.declared.Distance.TheVariants.{Value}
+use Rattle.std.proofs.Common.{◌≡◌, ℕ, Bool, true, false, cond, eqb, ◌⊎◌, inl, inr, Ok, pos, Float, refl, true≢false}
+use lib.Ieee.{binary32, of_bits, of_int, sub, div}
 use Rattle.refusal.proofs.Told.{distance_answer}
+use Rattle.bits.specs.Vectors.{BitVector}
+use Rattle.bit_words.specs.declared.Two.{Two}
 use Rattle.bit.specs.Calls.{SumsBoth}
-use Rattle.bit.specs.declared.Counts.{Counts}
-use Rattle.bit.specs.declared.Counts.TheVariants.{Ones}
 use Rattle.bit_distances.specs.Calls.{JaccardsIf}
 use Rattle.bit_distances.proofs.Counts.{both_counted}
 
@@ -30,16 +23,16 @@ stays false n x y h = refl
 stays true n x y (inl h) = rw h
 stays true n x y (inr h) = absurd (true≢false h)
 
-module _ (alike : Bool) (d : ℕ) (a : List ℕ) (e : ℕ) (b : List ℕ) {r : Counts} (s : SumsBoth d a e b r) {m n : ℕ} (told : r ≡ Ones m n) where
+module _ (alike : Bool) (a b : BitVector) {t : Two} (s : SumsBoth a b (Ok t)) where
   -- what is answered for two vectors without ones, where such are alike
-  pub without_ones : alike ≡ true → eqb n 0 ≡ true → JaccardsIf alike d a e b (Value (of_bits binary32 0))
+  pub without_ones : alike ≡ true → eqb t.or 0 ≡ true → JaccardsIf alike a b (Ok (of_bits binary32 0))
   without_ones h z =
-      let k = both_counted d a e b s told in
+      let k = both_counted a b s in
       distance_answer _ (rw (k.0, h, ← k.2, z, zero_float))
 
   -- and for all others
-  pub by_counts : (eqb n 0 ≡ false) ⊎ (alike ≡ false)
-      → JaccardsIf alike d a e b (Value (sub binary32 (of_bits binary32 1065353216) (div binary32 (of_int binary32 (pos m)) (of_int binary32 (pos n)))))
+  pub by_counts : (eqb t.or 0 ≡ false) ⊎ (alike ≡ false)
+      → JaccardsIf alike a b (Ok (sub binary32 (of_bits binary32 1065353216) (div binary32 (of_int binary32 (pos t.and)) (of_int binary32 (pos t.or)))))
   by_counts h =
-      let k = both_counted d a e b s told in
-      distance_answer _ (rw (k.0, ← k.1, ← k.2, stays alike n _ _ h, one_float))
+      let k = both_counted a b s in
+      distance_answer _ (rw (k.0, ← k.1, ← k.2, stays alike t.or _ _ h, one_float))

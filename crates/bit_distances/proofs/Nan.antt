@@ -1,20 +1,15 @@
 -- Of the two calls of Jaccard one answers NaN for two vectors without ones and for no others, the other never. Assumes nothing.
-use Prim.Native.Nat.{ℕ, zero, suc, ◌+◌, ◌≤◌}
-use native.Mathlib.Omega.{arith}
-use mathlib.Core.Bool.{Bool, true, false, cond, ◌&&◌, ◌||◌}
-use mathlib.Core.List.{List}
-use mathlib.Core.Path.{◌≡◌, refl, sym, ◌∙◌}
-use lib.Dec.{eqb, eqb-suc-zero}
-use lib.IntN.{pos}
-use lib.Ieee.{Float, binary32, of_int, sub, div, is_nan}
+use Rattle.std.proofs.Common.{◌≡◌, ℕ, zero, suc, ◌+◌, ◌≤◌, Bool, true, false, cond, ◌&&◌, ◌||◌, eqb, List, pos, Float, Result, Ok, refl, sym, ◌∙◌, arith}
+use lib.Dec.{eqb-suc-zero}
+use lib.Ieee.{binary32, of_int, sub, div, is_nan}
 use Rattle.places.specs.Below.{one, count_below}
 use Rattle.places.proofs.Below.{count_most, count_fewer, count_either}
 use Rattle.whole.proofs.Holds.{holds_of_int}
 use Rattle.whole.proofs.Nan.{div_number, sub_number}
-use Rattle.refusal.specs.declared.Distance.{Distance}
-use Rattle.refusal.specs.declared.Distance.TheVariants.{Value}
+use Rattle.refusal.specs.declared.Refusal.{Refusal}
 use Rattle.refusal.proofs.Told.{value_told}
 use Rattle.bits.specs.Bits.{bit_at}
+use Rattle.bits.specs.Vectors.{BitVector}
 use Rattle.bits.specs.Calls.{pair_of}
 use Rattle.bits.proofs.Pairs.{pair_sound}
 use Rattle.bit_words.specs.Ops.{meets}
@@ -85,20 +80,21 @@ by_ones d a b h =
     by_numbers _ _ (count_fewer (meets And a b) (meets Or a b) d (λ i. both_fewer (bit_at a i) (bit_at b i)))
     (omega (arith, count_most (meets Or a b) d))
 
-module _ (d : ℕ) (a : List ℕ) (e : ℕ) (b : List ℕ) {r : Distance} {x : Float} (told : r ≡ Value x) where
+module _ (a b : BitVector) {r : Result Float Refusal} {x : Float} (told : r ≡ Ok x) where
   -- what `operator_jaccard_or_nan` answers is NaN exactly if neither vector has a one
-  pub nan_exactly : JaccardsOrNan d a e b r → is_nan x ≡ (bare d a && bare d b)
+  pub nan_exactly : JaccardsOrNan a b r → is_nan x ≡ (bare a.dims a.words && bare a.dims b.words)
   nan_exactly s =
-      let k = value_told (jaccard_or_nan_of d a b) x (pair_of d a e b) (sym s.answer ∙ told) in
-      rw (k.1, ← or_bare d a b) (by_ones d a b (pair_sound d a e b k.0).left.high)
+      let k = value_told (jaccard_or_nan_of a.dims a.words b.words) x (pair_of a b) (sym s.answer ∙ told) in
+      rw (k.1, ← or_bare a.dims a.words b.words) (by_ones a.dims a.words b.words (pair_sound a b k.0).left.high)
 
   -- what `operator_jaccard` answers never is
-  pub never_nan : Jaccards d a e b r → is_nan x ≡ false
+  pub never_nan : Jaccards a b r → is_nan x ≡ false
   unfolding is_nan of_int
   never_nan s =
-      let k = value_told (jaccard_of d a b) x (pair_of d a e b) (sym s.answer ∙ told) in
-      rw k.1 (go (eqb (count_below (meets Or a b) d) 0) (by_ones d a b (pair_sound d a e b k.0).left.high))
+      let k = value_told (jaccard_of a.dims a.words b.words) x (pair_of a b) (sym s.answer ∙ told) in
+      rw k.1 (go (eqb (count_below (meets Or a.words b.words) a.dims) 0) (by_ones a.dims a.words b.words (pair_sound a b k.0).left.high))
     where
-      go : (p : Bool) → is_nan (jaccard_or_nan_of d a b) ≡ p → is_nan (cond p (of_int binary32 (pos 0)) (jaccard_or_nan_of d a b)) ≡ false
+      go : (p : Bool) → is_nan (jaccard_or_nan_of a.dims a.words b.words) ≡ p
+          → is_nan (cond p (of_int binary32 (pos 0)) (jaccard_or_nan_of a.dims a.words b.words)) ≡ false
       go true e = refl
       go false e = e

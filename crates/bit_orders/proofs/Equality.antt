@@ -1,12 +1,7 @@
 -- Equality of words is equality of the lists. Assumes nothing.
-use Prim.Native.Nat.{ℕ}
-use mathlib.Core.Bool.{true, not}
-use mathlib.Core.List.{List}
-use mathlib.Core.Path.{◌≡◌, refl, ap}
-use lib.Dec.{eqb}
-use lib.ListN.{length, get_or}
-use lib.Seq.{ext_get_or}
-use borrow.Author.Tests.{eq-eqb, eqb-true, not-true, not-false}
+use Rattle.std.proofs.Common.{◌≡◌, ℕ, Bool, true, false, not, eqb, List, length, get_or, refl, sym, ap, ◌∙◌, eq-eqb, eqb-true, ext_get_or}
+use Rattle.std.specs.Bool.{Decides}
+use borrow.Author.Tests.{not-true, not-false}
 use Rattle.places.specs.Below.{any_below}
 use Rattle.places.proofs.Below.{any_false, any_none}
 use Rattle.bit_orders.specs.Orders.{same_words}
@@ -21,3 +16,12 @@ same_lists a b long e =
 
 pub same_itself : (a : List ℕ) → same_words a a ≡ true
 same_itself a = ap not (any_none (λ j. not (eqb (get_or a j 0) (get_or a j 0))) (length a) (λ i h. ap not (eq-eqb (get_or a i 0) (get_or a i 0) refl)))
+
+-- so what decides the one decides the other
+pub same_decided : (a b : List ℕ) (r : Bool) → length b ≡ length a → Decides r (a ≡ b) → r ≡ same_words a b
+same_decided a b r long d = go r refl (same_words a b) refl
+  where
+    go : (s : Bool) → r ≡ s → (t : Bool) → same_words a b ≡ t → r ≡ same_words a b
+    go true e t f = let same : same_words a b ≡ true = rw (d.0 e) (same_itself b) in e ∙ sym same
+    go false e false f = e ∙ sym f
+    go false e true f = let yes = d.1 (same_lists a b (sym long) f) in absurd cc

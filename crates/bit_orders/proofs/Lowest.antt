@@ -1,12 +1,8 @@
 -- The lowest bit at which two words differ: as many zeros stand below it in their XOR. Assumes nothing.
-use Prim.Native.Nat.{ℕ, zero, suc, ◌+◌, ◌/◌, ◌%◌, ◌^◌, ◌<◌}
-use native.Mathlib.Omega.{arith}
-use mathlib.Core.Bool.{Bool, true, false}
-use mathlib.Core.Path.{◌≡◌, refl, sym, ap, ◌∙◌}
+use Rattle.std.proofs.Common.{◌≡◌, ℕ, zero, suc, ◌+◌, ◌/◌, ◌%◌, ◌^◌, ◌<◌, Bool, true, false, eqb, refl, sym, ap, ◌∙◌, arith}
 use lib.Arith.{lt-one}
 use lib.Bits.{bit_xor}
 use lib.Count.{count_trailing_zeros, under}
-use lib.Dec.{eqb}
 use Rattle.bits.specs.Bits.{bit_of}
 use Rattle.bits.proofs.Bits.{bit_zero, bit_suc, bit_none, half_lt, word_is}
 use Rattle.bit_words.specs.Ops.{both}

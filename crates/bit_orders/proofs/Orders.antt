@@ -1,27 +1,20 @@
 -- The lowest place at which two vectors differ is in the first word that does. Assumes nothing.
-use Prim.Native.Nat.{ℕ, ◌+◌, ◌-◌, ◌*◌, ◌/◌, ◌%◌, ◌^◌, ◌≤◌, ◌<◌}
-use native.Mathlib.Nat.{eq-or-lt_of_le}
-use native.Mathlib.Omega.{arith}
-use mathlib.Core.Bool.{Bool, true, false, false≢true, cond, not}
-use mathlib.Core.List.{List}
-use mathlib.Core.Logic.{⊎_elim}
-use mathlib.Core.Path.{◌≡◌, refl, sym, ap, ◌∙◌}
+use Rattle.std.proofs.Common.{◌≡◌, ℕ, ◌+◌, ◌-◌, ◌*◌, ◌/◌, ◌%◌, ◌^◌, ◌≤◌, ◌<◌, Bool, true, false, cond, List, length, get_or, ⊎_elim, refl, sym, ap, ◌∙◌, arith, eq-or-lt_of_le, eq-eqb, ne_eqb, eqb-true}
+use Rattle.std.proofs.lemmas.Bool.{false≢true}
 use lib.Bits.{bit_xor, xor_lt}
 use lib.Count.{count_trailing_zeros}
-use lib.Dec.{eqb}
-use lib.ListN.{length, get_or}
-use borrow.Author.Tests.{eq-eqb, ne_eqb, eqb-true}
 use Rattle.places.proofs.First.{found, none, before, most, hit}
-use Rattle.places.proofs.Below.{le_or_lt, any_none, any_true}
-use Rattle.refusal.specs.declared.Ordering.TheVariants.{Less, Equal, Greater}
+use Rattle.places.proofs.Below.{le_or_lt}
+use Rattle.std.specs.declared.cmp.Ordering.TheVariants.{Less, Equal, Greater}
 use Rattle.bits.specs.Bits.{bit_of, bit_at}
+use Rattle.bits.specs.Vectors.{BitVector}
 use Rattle.bits.proofs.Pairs.{Pair}
 use Rattle.bits.proofs.Vectors.{bit_at_lem}
 use Rattle.bit_words.specs.Ops.{both}
 use Rattle.bit_words.specs.declared.Op.TheVariants.{Xor}
 use Rattle.bit_words.proofs.Joins.{bit_join}
 use Rattle.bit_orders.proofs.Lowest.{Lowest, trailing_lowest, xor_some}
-use Rattle.bit_orders.specs.Orders.{lowest, order_below, same_words}
+use Rattle.bit_orders.specs.Orders.{lowest, order_below}
 use Rattle.bit_orders.specs.Words.{word_order, words_order}
 
 same_bits : (b : Bool) → both Xor b b ≡ false
@@ -72,15 +65,6 @@ same_word a b k e = rw e (same_bits (bit_of (get_or b (k / 64) 0) (k % 64)))
 -- the first n words are the same
 abbrev pub SameFirst : List ℕ → List ℕ → ℕ → Type 0
 SameFirst a b n = (j : ℕ) → j < n → get_or a j 0 ≡ get_or b j 0
-
-pub words_same : (a b : List ℕ) → SameFirst a b (length a) → same_words a b ≡ true
-words_same a b same =
-    ap not
-    (any_none (λ j. not (eqb (get_or a j 0) (get_or b j 0))) (length a) (λ j h. ap not (eq-eqb (get_or a j 0) (get_or b j 0) (same j h))))
-
-pub words_differ : (a b : List ℕ) (i : ℕ) → i < length a → (get_or a i 0 ≡ get_or b i 0 → ⊥) → same_words a b ≡ false
-words_differ a b i h other =
-    ap not (any_true (λ j. not (eqb (get_or a j 0) (get_or b j 0))) (length a) i h (ap not (ne_eqb (get_or a i 0) (get_or b i 0) other)))
 
 pub words_equal : (a b : List ℕ) → SameFirst a b (length a) → words_order a b ≡ Equal
 words_equal a b same = order_none (bit_at a) (bit_at b) (64 * length a) (λ k l. same_word a b k (same (k / 64) (omega arith)))
@@ -146,8 +130,8 @@ module _ (a b : List ℕ) (i : ℕ) (hx : get_or a i 0 < 2 ^ 64) (hy : get_or b 
       ∙ sym (word_decides (get_or a i 0) (get_or b i 0) hx hy other)
 
 -- the padding decides nothing
-pub order_dims : {d e : ℕ} {a b : List ℕ} → Pair d a e b → order_below (bit_at a) (bit_at b) d ≡ words_order a b
-order_dims {d} {a = a} {b} p =
+pub order_dims : {a b : BitVector} → Pair a b → order_below (bit_at a.words) (bit_at b.words) a.dims ≡ words_order a.words b.words
+order_dims {a} {b} p =
     sym
-    (order_rest (bit_at a) (bit_at b) d (64 * length a) (omega (arith, p.left.long))
+    (order_rest (bit_at a.words) (bit_at b.words) a.dims (64 * length a.words) (omega (arith, p.left.long))
     (λ k h l. rw (p.left.clear k h, p.right.clear k h)))

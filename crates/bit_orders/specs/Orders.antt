@@ -2,8 +2,8 @@
 use Rattle.std.specs.Prelude.{ℕ, Bool, not, cond, List, eqb, length, get_or}
 use Rattle.places.specs.Below.{any_below}
 use Rattle.places.specs.Search.{first_from}
-use Rattle.refusal.specs.declared.Ordering.{Ordering}
-use Rattle.refusal.specs.declared.Ordering.TheVariants.{Less, Equal, Greater}
+use Rattle.std.specs.declared.cmp.Ordering.{Ordering}
+use Rattle.std.specs.declared.cmp.Ordering.TheVariants.{Less, Equal, Greater}
 use Rattle.bit_words.specs.Ops.{both}
 use Rattle.bit_words.specs.declared.Op.TheVariants.{Xor}
 

@@ -1,6 +1,6 @@
 -- What the loops over words promise to the calls above them. A user's promises do not cite these.
 use Rattle.std.specs.Prelude.{ℕ, ◌*◌, List, length}
-use Rattle.refusal.specs.declared.Ordering.{Ordering}
+use Rattle.std.specs.declared.cmp.Ordering.{Ordering}
 use Rattle.bits.specs.Bits.{bit_of, bit_at}
 use Rattle.bit_orders.specs.Orders.{order_below}
 

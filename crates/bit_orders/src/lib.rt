@@ -7,21 +7,14 @@ ghost use Rattle.bits.specs.Words.{Alike};
 ghost use Rattle.bit_orders.specs.Orders.{same_words};
 ghost use Rattle.bit_orders.specs.Words.{word_order, words_order};
 
-use refusal::Ordering;
+use std::cmp::Ordering;
 
 // Whether two lists of as many words are the same.
 pub fn same_words(a: &[u64], b: &[u64]) -> bool
     requires { Alike a.now b.now }
     ensures { result ≡ same_words a.now b.now }
 {
-    let mut i: usize = 0;
-    while i < a.len() {
-        if a[i] != b[i] {
-            return false;
-        }
-        i += 1;
-    }
-    true
+    a == b
 }
 
 // How two words that differ compare: at their lowest differing bit the side with the one is Greater.
@@ -29,7 +22,7 @@ fn compare_words(x: u64, y: u64) -> Ordering
     requires { x ≡ y → ⊥ }
     ensures { result ≡ word_order x y }
 {
-    let k = u64::trailing_zeros(x ^ y);
+    let k = (x ^ y).trailing_zeros();
     let left = (x >> k) % 2;
     let right = (y >> k) % 2;
     if right < left {
@@ -38,19 +31,16 @@ fn compare_words(x: u64, y: u64) -> Ordering
     Ordering::Less
 }
 
-// How two lists of as many words compare.
+// How two lists of as many words compare. By place: a `zip` would test two ends.
 pub fn compare_all(a: &[u64], b: &[u64]) -> Ordering
     requires { Alike a.now b.now }
     ensures { result ≡ words_order a.now b.now }
 {
-    let mut i: usize = 0;
-    while i < a.len() {
-        let x = a[i];
+    for (i, x) in a.iter().enumerate() {
         let y = b[i];
-        if x != y {
-            return compare_words(x, y);
+        if *x != y {
+            return compare_words(*x, y);
         }
-        i += 1;
     }
     Ordering::Equal
 }

@@ -1,14 +1,9 @@
 -- The 64 bits from any place on, taken from two neighbouring words; and the lowest of them alone. Assumes nothing.
-use Prim.Native.Nat.{ℕ, zero, suc, ◌+◌, ◌-◌, ◌*◌, ◌/◌, ◌%◌, ◌^◌, ◌≤◌, ◌<◌}
-use native.Mathlib.Nat.{mul_assoc, mul_comm, add-mul, mul-mod_left}
-use native.Mathlib.Omega.{arith}
-use mathlib.Core.Bool.{Bool}
-use mathlib.Core.List.{List, ◌++◌}
-use mathlib.Core.Path.{◌≡◌, sym, ap, ◌∙◌}
+use Rattle.std.proofs.Common.{◌≡◌, ℕ, zero, suc, ◌+◌, ◌-◌, ◌*◌, ◌/◌, ◌%◌, ◌^◌, ◌≤◌, ◌<◌, Bool, List, [], ◌∷◌, ◌++◌, length, get_or, set, take, drop, replicate, refl, sym, ap, ◌∙◌, arith, lt-ltb, le-ltb, length-take-le}
+use Rattle.std.proofs.Math.Nat.{mul_assoc, mul_comm, add-mul, mul-mod_left}
+use Rattle.std.proofs.lemmas.List.{replicate_more}
 use lib.Bits.{bit_or, or_shifted_r}
-use lib.ListN.{length, get_or, set, drop}
 use lib.Pow.{pow-add, high, low, mod-pow-add, shl-shr, shr_lt}
-use borrow.Author.Tests.{lt-ltb, le-ltb}
 use Rattle.places.specs.Below.{one, list_below}
 use Rattle.places.proofs.Below.{list_same, wrote_more}
 use Rattle.bits.specs.Bits.{bit_at, cut, word_from}
@@ -96,3 +91,15 @@ gathered f start end n old within room front last =
     let same = list_same (λ j. word_from f (start + 64 * j) 64) (λ j. word_from (cut end f) (start + 64 * j) 64) n
     (λ j h. sym (word_same (cut end f) f (start + 64 * j) (start + 64 * j) 64 (λ k l. rw (lt-ltb (start + 64 * j + k) end (omega arith))))) in
     (wrote_more (record { room = omega arith; front = front ∙ ap (λ (l : List ℕ). l ++ drop n old) same }) room last).front
+
+-- ---- n clear words
+clear_words : (n : ℕ) → replicate {A = ℕ} n 0 ≡ list_below (λ i. 0) n
+unfolding list_below
+clear_words zero = refl
+clear_words (suc n) =
+    let e : suc n ≡ n + 1 = omega arith in
+    ap (λ (m : ℕ). replicate m 0) e ∙ sym (replicate_more n 0) ∙ ap (λ (l : List ℕ). l ++ (0 ∷ [])) (clear_words n)
+
+-- the first n places of a list, once they are filled with them
+pub cleared : (n : ℕ) (old : List ℕ) {left : List ℕ} → n ≤ length old → left ≡ replicate (length (take n old)) 0 → left ≡ list_below (λ i. 0) n
+cleared n old room e = e ∙ ap (λ (m : ℕ). replicate m 0) (length-take-le n old room) ∙ clear_words n

@@ -12,11 +12,7 @@ pub fn clear(n: usize, out: &mut [u64])
     requires { n ≤ length out.old }
     ensures { out.new ≡ list_below (λ i. 0) n ++ drop n out.old }
 {
-    let mut i: usize = 0;
-    while i < n {
-        out[i] = 0;
-        i += 1;
-    }
+    out[..n].fill(0);
 }
 
 // The bit at place `i` of a list of words that reaches so far.
@@ -78,10 +74,8 @@ fn gather_whole(words: &[u64], start: usize, n: usize, out: &mut [u64])
 {
     let first = start / 64;
     let shift = start % 64;
-    let mut j: usize = 0;
-    while j < n {
+    for j in 0..n {
         out[j] = word_at(words, first + j, shift);
-        j += 1;
     }
 }
 

@@ -1,11 +1,6 @@
 -- The ones of two lists of words put together, counted word by word. Assumes nothing.
-use Prim.Native.Nat.{ℕ, ◌+◌, ◌*◌, ◌^◌, ◌≤◌, ◌<◌}
-use native.Mathlib.Omega.{arith}
-use mathlib.Core.Bool.{Bool}
-use mathlib.Core.List.{List}
-use mathlib.Core.Path.{◌≡◌, refl, sym, ap, ap₂, ◌∙◌}
-use lib.ListN.{get_or}
-use lib.Count.{ones, ones-le}
+use Rattle.std.proofs.Common.{◌≡◌, ℕ, ◌+◌, ◌*◌, ◌^◌, ◌≤◌, ◌<◌, List, get_or, refl, sym, ap, ap₂, ◌∙◌, arith}
+use lib.Count.{ones}
 use Rattle.places.specs.Below.{count_below}
 use Rattle.places.proofs.Below.{count_add, count_same, count_most}
 use Rattle.bits.specs.Bits.{bit_of}
@@ -28,28 +23,18 @@ count_word op a b j ha hb =
     (count_same (λ i. meets op a b (64 * j + i)) (bit_of w) 64 (λ k h. meets_at op a b j k h)
     ∙ sym (ones_count 64 w (join_lt op 64 (get_or a j 0) (get_or b j 0) ha hb)))
 
-pub count_step : (op : Op) (a b : List ℕ) (j n w : ℕ) → get_or a j 0 < 2 ^ 64 → get_or b j 0 < 2 ^ 64
-    → n ≡ count_below (meets op a b) (64 * j) → w ≡ join op (get_or a j 0) (get_or b j 0)
-    → n + ones w ≡ count_below (meets op a b) (64 * (j + 1))
-count_step op a b j n w ha hb e f = ap₂ (λ (x y : ℕ). x + ones y) e f ∙ sym (count_word op a b j ha hb)
-
--- the count so far, and that of one word more, fit
-pub count_fits : (t : ℕ → Bool) (j n w : ℕ) → n ≡ count_below t (64 * j) → j ≤ 1024 → w < 2 ^ 64 → n + ones w < 2 ^ 32
-count_fits t j n w e h l = omega (arith, count_most t (64 * j), ones-le 64 w l)
-
 -- n is the number of ones in the first j words put together, 64 places each
 pub record FirstOnes (op : Op) (a b : List ℕ) (j n : ℕ) : Type 0 where
   pub count : n ≡ count_below (meets op a b) (64 * j)
+  pub few : n ≤ 64 * j
 
 pub ones_none : {op : Op} {a b : List ℕ} → FirstOnes op a b 0 0
 unfolding count_below
-ones_none = record { count = refl }
+ones_none = record { count = refl; few = omega arith }
 
 -- one word more
-pub ones_more : {op : Op} {a b : List ℕ} {j n w : ℕ} → FirstOnes op a b j n → get_or a j 0 < 2 ^ 64 → get_or b j 0 < 2 ^ 64
-    → w ≡ join op (get_or a j 0) (get_or b j 0) → FirstOnes op a b (j + 1) (n + ones w)
-ones_more {op} {a} {b} {j} {n} {w} s ha hb e = record { count = count_step op a b j n w ha hb s.count e }
-
--- and the sum fits
-pub ones_fit : {op : Op} {a b : List ℕ} {j n : ℕ} (w : ℕ) → FirstOnes op a b j n → j ≤ 1024 → w < 2 ^ 64 → n + ones w < 2 ^ 32
-ones_fit {op} {a} {b} {j} {n} w s h l = count_fits (meets op a b) j n w s.count h l
+pub ones_more : {op : Op} {a b : List ℕ} {j n w m : ℕ} → FirstOnes op a b j n → get_or a j 0 < 2 ^ 64 → get_or b j 0 < 2 ^ 64
+    → w ≡ join op (get_or a j 0) (get_or b j 0) → m ≡ ones w → FirstOnes op a b (j + 1) (n + m)
+ones_more {op} {a} {b} {j} {n} {w} {m} s ha hb e f =
+    let c : n + m ≡ count_below (meets op a b) (64 * (j + 1)) = ap₂ ◌+◌ s.count (f ∙ ap ones e) ∙ sym (count_word op a b j ha hb) in
+    record { count = c; few = omega (arith, count_most (meets op a b) (64 * (j + 1)), c) }

@@ -9,7 +9,8 @@ ghost use Rattle.bits.specs.Words.{Alike};
 ghost use Rattle.bit_words.specs.Ops.{join};
 ghost use Rattle.bit_words.specs.Words.{ones_of, joins};
 
-// Two bits, or two words bit by bit, put together.
+// Two bits, or two words bit by bit, put together. It is an enum and no closure, since what the calls promise is said of it
+// (specs/Ops.antt).
 #[derive(Clone, Copy)]
 pub enum Op {
     And,
@@ -33,25 +34,24 @@ fn joined(op: Op, x: u64, y: u64) -> u64
 fn ones_in(x: u64) -> u64
     ensures { result ≡ ones x }
 {
-    u64::count_ones(x) as u64
+    x.count_ones() as u64
 }
 
-// The ones of a combination of two lists of as many words.
+// The ones of a combination of two lists of as many words. Here and below b is read by its index: a loop over a zip tests two
+// ends, and the compiler then counts a word at a time where it takes several in this form.
 pub fn ones_of(op: Op, a: &[u64], b: &[u64]) -> u32
     requires { Alike a.now b.now }
     ensures { result ≡ ones_of op a.now b.now }
 {
     let mut n: u64 = 0;
-    let mut i: usize = 0;
-    while i < a.len() {
-        n += ones_in(joined(op, a[i], b[i]));
-        i += 1;
+    for (i, x) in a.iter().enumerate() {
+        n += ones_in(joined(op, *x, b[i]));
     }
     n as u32
 }
 
-// Two counts of one walk.
-#[derive(Drop)]
+// Two counts of one walk: the ones of a AND b, and those of a OR b.
+#[derive(Clone, Copy)]
 pub struct Two {
     pub and: u32,
     pub or: u32,
@@ -64,13 +64,10 @@ pub fn ones_of_both(a: &[u64], b: &[u64]) -> Two
 {
     let mut and: u64 = 0;
     let mut or: u64 = 0;
-    let mut i: usize = 0;
-    while i < a.len() {
-        let x = a[i];
+    for (i, x) in a.iter().enumerate() {
         let y = b[i];
-        and += ones_in(joined(Op::And, x, y));
-        or += ones_in(joined(Op::Or, x, y));
-        i += 1;
+        and += ones_in(joined(Op::And, *x, y));
+        or += ones_in(joined(Op::Or, *x, y));
     }
     Two {
         and: and as u32,
@@ -81,12 +78,10 @@ pub fn ones_of_both(a: &[u64], b: &[u64]) -> Two
 // Writes a combination of two lists of as many words to the front of `out`.
 pub fn combine(op: Op, a: &[u64], b: &[u64], out: &mut [u64])
     requires alike { Alike a.now b.now }
-    requires a_in_bounds { length a.now ≤ length out.old }
+    requires room { length a.now ≤ length out.old }
     ensures { out.new ≡ joins op a.now b.now ++ drop (length a.now) out.old }
 {
-    let mut i: usize = 0;
-    while i < a.len() {
-        out[i] = joined(op, a[i], b[i]);
-        i += 1;
+    for (i, x) in a.iter().enumerate() {
+        out[i] = joined(op, *x, b[i]);
     }
 }

@@ -1,12 +1,7 @@
 -- The bits of one word, and a word put together from bits. Assumes nothing.
-use Prim.Native.Nat.{ℕ, zero, suc, ◌+◌, ◌*◌, ◌/◌, ◌%◌, ◌^◌, ◌<◌}
-use native.Mathlib.Nat.{add-zero, pow-suc, mul_assoc, div-one, div-eq_of_lt}
-use native.Mathlib.Omega.{arith}
-use mathlib.Core.Bool.{Bool, true, false}
-use mathlib.Core.Path.{◌≡◌, refl, sym, ap, ◌∙◌}
-use lib.Dec.{eqb}
+use Rattle.std.proofs.Common.{◌≡◌, ℕ, zero, suc, ◌+◌, ◌*◌, ◌/◌, ◌%◌, ◌^◌, ◌<◌, Bool, true, false, eqb, refl, sym, ap, ◌∙◌, arith, add-zero, pow-suc, mul_assoc, div-one, pow_pos, shr-shr}
+use Rattle.std.proofs.Math.Nat.{div-eq_of_lt}
 use lib.Arith.{lt-one}
-use lib.Pow.{shr-shr, pow_pos}
 use Rattle.places.specs.Below.{one}
 use Rattle.places.proofs.Below.{one_most}
 use Rattle.bits.specs.Bits.{bit_of, word_from}

@@ -1,16 +1,9 @@
 -- What a call writes is a bit vector, and has the bits that were asked for; a vector is known by its bits. Assumes nothing.
-use Prim.Native.Nat.{ℕ, ◌+◌, ◌*◌, ◌/◌, ◌%◌, ◌^◌, ◌≤◌, ◌<◌}
-use native.Mathlib.Omega.{arith}
-use mathlib.Core.Bool.{Bool}
-use mathlib.Core.List.{List}
-use mathlib.Core.Logic.{⊎_elim}
-use mathlib.Core.Path.{◌≡◌, sym, ap, ◌∙◌}
-use lib.ListN.{get_or}
-use lib.Seq.{ext_get_or}
-use borrow.Author.Tests.{le-ltb}
+use Rattle.std.proofs.Common.{◌≡◌, ℕ, ◌+◌, ◌*◌, ◌/◌, ◌%◌, ◌^◌, ◌≤◌, ◌<◌, Bool, List, get_or, ⊎_elim, sym, ap, ◌∙◌, arith, ext_get_or, le-ltb}
 use Rattle.places.proofs.Below.{at_below, length_below, le_or_lt}
-use Rattle.refusal.specs.declared.Checked.TheVariants.{Valid}
+use Rattle.refusal.specs.Answers.{Valid}
 use Rattle.bits.specs.Bits.{bit_of, bit_at, cut, word_from, words_for, words_of}
+use Rattle.bits.specs.Vectors.{bits}
 use Rattle.bits.specs.Calls.{checked_of}
 use Rattle.bits.proofs.Bits.{bit_word, word_is}
 use Rattle.bits.proofs.Vectors.{bit_at_lem, bit_past}
@@ -33,13 +26,13 @@ module _ (d : ℕ) (f : ℕ → Bool) where
           ∙ ap (cut d f) e
 
   -- and they pass the check
-  pub words_valid : 1 ≤ d → d ≤ 65535 → checked_of d (words_of d f) ≡ Valid
+  pub words_valid : 1 ≤ d → d ≤ 65535 → checked_of (bits d (words_of d f)) ≡ Valid
   words_valid low high =
-      valid d (words_of d f)
+      valid (bits d (words_of d f))
       (record { low = low; high = high; long = length_below _ (words_for d); clear = λ i h. words_bit i ∙ rw (le-ltb i d h) })
 
 -- two vectors of the same dims with the same bits are the same words
-pub known_by_bits : (d : ℕ) (a b : List ℕ) → Sound d a → Sound d b → ((j : ℕ) → get_or a j 0 < 2 ^ 64) → ((j : ℕ) → get_or b j 0 < 2 ^ 64)
+pub known_by_bits : (d : ℕ) (a b : List ℕ) → Sound (bits d a) → Sound (bits d b) → ((j : ℕ) → get_or a j 0 < 2 ^ 64) → ((j : ℕ) → get_or b j 0 < 2 ^ 64)
     → ((i : ℕ) → i < d → bit_at a i ≡ bit_at b i) → a ≡ b
 known_by_bits d a b sa sb ha hb same =
     ext_get_or 0 a b (sa.long ∙ sym sb.long)

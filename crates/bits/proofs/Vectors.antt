@@ -1,15 +1,9 @@
 -- The bits of a list of words, and what a check has found. Assumes nothing.
-use Prim.Native.Nat.{ℕ, ◌+◌, ◌-◌, ◌*◌, ◌/◌, ◌%◌, ◌^◌, ◌≤◌, ◌<◌}
-use native.Mathlib.Nat.{div-lt_iff_lt-mul, lt_of_lt_of_le, one-mul}
-use native.Mathlib.Omega.{arith}
-use mathlib.Core.Bool.{false, ◌&&◌, and-false}
-use mathlib.Core.List.{List}
-use mathlib.Core.Logic.{◌⊎◌, inl, inr, ⊎_elim}
-use mathlib.Core.Path.{◌≡◌, refl, sym, ap, ◌∙◌}
-use lib.Dec.{leb, eqb}
-use lib.ListN.{length, get_or, get_or-eq_default}
-use lib.Pow.{shr-shr, pow_mono, pow_pos, shr_le}
-use borrow.Author.Tests.{le-leb, lt-leb}
+use Rattle.std.proofs.Common.{◌≡◌, ℕ, ◌+◌, ◌-◌, ◌*◌, ◌/◌, ◌%◌, ◌^◌, ◌≤◌, ◌<◌, false, ◌&&◌, List, length, get_or, leb, eqb, ◌⊎◌, inl, inr, ⊎_elim, refl, sym, ap, ◌∙◌, arith, lt_of_lt_of_le, one-mul, div-lt_iff_lt-mul, pow_mono, pow_pos, shr-shr, le-leb}
+use Rattle.std.proofs.Math.ListN.{get_or-eq_default}
+use Rattle.std.proofs.lemmas.Bool.{lt-leb}
+use mathlib.Core.Bool.{and-false}
+use Rattle.std.proofs.lemmas.Nat.{shr_le}
 use Rattle.places.proofs.Below.{any_false, any_none, le_or_lt}
 use Rattle.bits.specs.Bits.{bit_of, bit_at, words_for}
 use Rattle.bits.specs.Calls.{padded}

@@ -5,9 +5,17 @@
 ghost use Rattle.std.specs.Prelude.{◌≡◌};
 ghost use Rattle.refusal.specs.Answers.{Checks};
 ghost use Rattle.bits.specs.Bits.{words_for};
+ghost use Rattle.bits.specs.Vectors.{seen};
 ghost use Rattle.bits.specs.Calls.{checked_of, each_of, pair_of};
 
-use refusal::Checked;
+use refusal::Refusal;
+
+// A bit vector as a call is handed it: any dims and any words, of which nothing is known until they are checked.
+#[derive(Clone, Copy)]
+pub struct BVectBorrowed<'a> {
+    pub dims: u32,
+    pub data: &'a [u64],
+}
 
 // How many words hold `dims` bits.
 pub fn words_for(dims: u32) -> usize
@@ -16,49 +24,47 @@ pub fn words_for(dims: u32) -> usize
     (dims as usize + 63) / 64
 }
 
-// Whether `words` is a bit vector of `dims` bits. Refuses with DIMS, LENGTH, PADDING.
-pub fn check(dims: u32, words: &[u64]) -> Checked
-    ensures { Checks (checked_of dims words.now) result }
-{
-    if dims == 0 {
-        return Checked::Refused(refusal::DIMS, 0);
-    }
-    if 65535 < dims {
-        return Checked::Refused(refusal::DIMS, 0);
-    }
-    if words.len() != words_for(dims) {
-        return Checked::Refused(refusal::LENGTH, 0);
-    }
-    let last = words.len() - 1;
-    let used = dims % 64;
-    if used != 0 {
-        let word = words[last];
-        if (word >> used) != 0 {
-            return Checked::Refused(refusal::PADDING, last);
+impl BVectBorrowed<'_> {
+    // Whether this is a bit vector. Refuses with Dims, Length, Padding.
+    pub fn check(self) -> Result<(), Refusal>
+        ensures { Checks (checked_of (seen self.entry)) result }
+    {
+        if self.dims == 0 {
+            return Err(Refusal::Dims);
         }
+        if 65535 < self.dims {
+            return Err(Refusal::Dims);
+        }
+        if self.data.len() != words_for(self.dims) {
+            return Err(Refusal::Length);
+        }
+        let last = self.data.len() - 1;
+        let used = self.dims % 64;
+        if used != 0 {
+            let word = self.data[last];
+            if (word >> used) != 0 {
+                return Err(Refusal::Padding(last));
+            }
+        }
+        Ok(())
     }
-    Checked::Valid
 }
 
 // The first refusal of two vectors: left, right.
-pub fn check_each(dims_a: u32, a: &[u64], dims_b: u32, b: &[u64]) -> Checked
-    ensures { Checks (each_of dims_a a.now dims_b b.now) result }
+pub fn check_each(a: BVectBorrowed<'_>, b: BVectBorrowed<'_>) -> Result<(), Refusal>
+    ensures { Checks (each_of (seen a.entry) (seen b.entry)) result }
 {
-    if let Checked::Refused(number, place) = check(dims_a, a) {
-        return Checked::Refused(number, place);
-    }
-    check(dims_b, b)
+    a.check()?;
+    b.check()
 }
 
-// The first refusal of two vectors that have to have equal dims: left, right, DIFFER.
-pub fn check_pair(dims_a: u32, a: &[u64], dims_b: u32, b: &[u64]) -> Checked
-    ensures { Checks (pair_of dims_a a.now dims_b b.now) result }
+// The first refusal of two vectors that have to have equal dims: left, right, Differ.
+pub fn check_pair(a: BVectBorrowed<'_>, b: BVectBorrowed<'_>) -> Result<(), Refusal>
+    ensures { Checks (pair_of (seen a.entry) (seen b.entry)) result }
 {
-    if let Checked::Refused(number, place) = check_each(dims_a, a, dims_b, b) {
-        return Checked::Refused(number, place);
+    check_each(a, b)?;
+    if a.dims != b.dims {
+        return Err(Refusal::Differ);
     }
-    if dims_a != dims_b {
-        return Checked::Refused(refusal::DIFFER, 0);
-    }
-    Checked::Valid
+    Ok(())
 }

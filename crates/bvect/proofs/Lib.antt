@@ -1,3 +1,2 @@
--- Laws of bit vectors: slices and order.
+-- Laws of bit vectors: slices.
 pub mod Slices
-pub mod Compared

@@ -1,21 +1,11 @@
 -- The words of a slice, and of the vector without ones. Assumes nothing.
-use Prim.Native.Nat.{ℕ, ◌+◌, ◌-◌, ◌*◌, ◌≤◌}
-use native.Mathlib.Omega.{arith}
-use mathlib.Core.Bool.{Bool, false, and-false}
-use mathlib.Core.List.{List, ◌++◌}
-use mathlib.Core.Logic.{⊎_elim}
-use mathlib.Core.Path.{◌≡◌, sym, ap, ◌∙◌}
-use lib.Dec.{ltb}
-use lib.ListN.{drop}
-use borrow.Author.Tests.{lt-ltb, le-ltb}
+use Rattle.std.proofs.Common.{◌≡◌, ℕ, ◌+◌, ◌-◌, ◌*◌, ◌≤◌, Bool, false, List, ◌++◌, ltb, drop, Ok, ⊎_elim, sym, ap, ◌∙◌, arith, lt-ltb, le-ltb}
+use Rattle.std.specs.declared.ops.Bound.{Bound}
+use mathlib.Core.Bool.{and-false}
 use Rattle.places.specs.Below.{list_below}
 use Rattle.places.proofs.Below.{list_same, length_below, le_or_lt}
-use Rattle.refusal.specs.Answers.{Writes}
+use Rattle.refusal.specs.Answers.{Checked, Valid, Writes, written}
 use Rattle.refusal.specs.Bounds.{start_of, end_of}
-use Rattle.refusal.specs.declared.Bound.{Bound}
-use Rattle.refusal.specs.declared.Checked.{Checked}
-use Rattle.refusal.specs.declared.Checked.TheVariants.{Valid}
-use Rattle.refusal.specs.declared.Written.TheVariants.{Done}
 use Rattle.refusal.proofs.Spans.{Part}
 use Rattle.refusal.proofs.Told.{done_writes}
 use Rattle.bits.specs.Bits.{bit_at, cut, word_from, words_for, words_of}
@@ -28,7 +18,7 @@ words_none d =
 
 -- the clear words that the loop wrote are those
 pub none_writes : (d : ℕ) {n : ℕ} {due : Checked} {old left : List ℕ} → due ≡ Valid → n ≡ words_for d
-    → left ≡ list_below (λ j. 0) n ++ drop n old → Writes due d (words_of d (λ i. false)) old (Done d n) left
+    → left ≡ list_below (λ j. 0) n ++ drop n old → Writes due d (words_of d (λ i. false)) old (Ok (written d n)) left
 none_writes d {n} {old = old} passed size front =
     done_writes d (words_of d (λ i. false)) passed
     (size ∙ sym (length_below _ (words_for d)))
@@ -54,11 +44,11 @@ module _ (f : ℕ → Bool) (start end : ℕ) (rising : start ≤ end) where
       (λ k l. let e : start + 64 * j + k ≡ start + (64 * j + k) = omega arith in rw e (cut_from (64 * j + k))))
 
 -- the words that the loop wrote are the slice's
-pub slice_writes : (from to : Bound) (d : ℕ) (ws : List ℕ) {start end n : ℕ} {due : Checked} {old left : List ℕ}
+pub slice_writes : (from to : Bound ℕ) (d : ℕ) (ws : List ℕ) {start end n : ℕ} {due : Checked} {old left : List ℕ}
     → Part from to d start end → due ≡ Valid → n ≡ words_for (end - start)
     → left ≡ list_below (λ j. word_from (cut end (bit_at ws)) (start + 64 * j) 64) n ++ drop n old
     → Writes due (end_of d to - start_of from) (words_of (end_of d to - start_of from) (λ i. bit_at ws (start_of from + i))) old
-    (Done (end - start) n) left
+    (Ok (written (end - start) n)) left
 slice_writes from to d ws {start} {end} {n} {old = old} p passed size front =
     rw (← p.starts, ← p.ends)
     (done_writes (end - start) (words_of (end - start) (λ i. bit_at ws (start + i))) passed

@@ -4,125 +4,129 @@
 #![tactic(auto)]
 
 ghost use Rattle.refusal.specs.Answers.{Checks};
+ghost use Rattle.bits.specs.Vectors.{seen};
 ghost use Rattle.bits.specs.Calls.{checked_of};
 ghost use Rattle.bit_words.specs.declared.Op.TheVariants.{And, Or, Xor};
 ghost use Rattle.bit.specs.Calls.{Combines};
 ghost use Rattle.bvect.specs.Calls.{Zeroes, Gets, Cuts, Equals, Compares};
 
+pub use bit::BVectBorrowed;
 pub use bit_distances::{
     operator_dot, operator_hamming, operator_jaccard, operator_jaccard_or_nan,
 };
-use refusal::{Asked, Bound, Checked, Ordering, Span, Written};
+use refusal::{Refusal, Written};
+use std::cmp::Ordering;
+use std::ops::Bound;
 
-// Whether `words` is a bit vector of `dims` bits. Refuses with DIMS, LENGTH, PADDING.
-pub fn new_checked(dims: u32, words: &[u64]) -> Checked
-    ensures { Checks (checked_of dims words.now) result }
+// Whether this is a bit vector. Refuses with Dims, Length, Padding.
+pub fn new_checked(v: BVectBorrowed<'_>) -> Result<(), Refusal>
+    ensures { Checks (checked_of (seen v.entry)) result }
 {
-    bit::check(dims, words)
+    v.check()
 }
 
-// Writes the vector of `dims` clear bits to the front of `out`. Refuses with DIMS, ROOM.
-pub fn zero(dims: u32, out: &mut [u64]) -> Written
+// Writes the vector of `dims` clear bits to the front of `out`. Refuses with Dims, Room.
+pub fn zero(dims: u32, out: &mut [u64]) -> Result<Written, Refusal>
     ensures { Zeroes dims out.old result out.new }
 {
     if dims == 0 {
-        return Written::Refused(refusal::DIMS, 0);
+        return Err(Refusal::Dims);
     }
     if 65535 < dims {
-        return Written::Refused(refusal::DIMS, 0);
+        return Err(Refusal::Dims);
     }
-    let n = bit::words_for(dims);
-    if out.len() < n {
-        return Written::Refused(refusal::ROOM, n);
+    let len = bit::words_for(dims);
+    if out.len() < len {
+        return Err(Refusal::Room(len));
     }
-    bit_slices::clear(n, out);
-    Written::Done(dims, n)
+    bit_slices::clear(len, out);
+    Ok(Written { dims, len })
 }
 
-// Whether the bit at `index` is set. Refuses as `new_checked` does, and then with INDEX.
-pub fn get(dims: u32, words: &[u64], index: u32) -> Asked
-    ensures { Gets dims words.now index result }
+// Whether the bit at `index` is set. Refuses as `new_checked` does, and then with Index.
+pub fn get(v: BVectBorrowed<'_>, index: u32) -> Result<bool, Refusal>
+    ensures { Gets (seen v.entry) index result }
 {
-    if let Checked::Refused(number, place) = bit::check(dims, words) {
-        return Asked::Refused(number, place);
+    v.check()?;
+    if v.dims <= index {
+        return Err(Refusal::Index(index as usize));
     }
-    if dims <= index {
-        return Asked::Refused(refusal::INDEX, index as usize);
-    }
-    if bit_slices::bit_at(words, index as usize) {
-        return Asked::Yes;
-    }
-    Asked::No
+    Ok(bit_slices::bit_at(v.data, index as usize))
 }
 
 // Writes a AND b to the front of `out`, and answers its dims and words. Refuses as `bit::check_pair`
-// does, and then with ROOM. So do the next two.
-pub fn operator_and(dims_a: u32, a: &[u64], dims_b: u32, b: &[u64], out: &mut [u64]) -> Written
-    ensures { Combines And dims_a a.now dims_b b.now out.old result out.new }
+// does, and then with Room. So do the next two.
+pub fn operator_and(
+    a: BVectBorrowed<'_>,
+    b: BVectBorrowed<'_>,
+    out: &mut [u64],
+) -> Result<Written, Refusal>
+    ensures { Combines And (seen a.entry) (seen b.entry) out.old result out.new }
 {
-    bit::vector_and(dims_a, a, dims_b, b, out)
+    bit::vector_and(a, b, out)
 }
 
-pub fn operator_or(dims_a: u32, a: &[u64], dims_b: u32, b: &[u64], out: &mut [u64]) -> Written
-    ensures { Combines Or dims_a a.now dims_b b.now out.old result out.new }
+pub fn operator_or(
+    a: BVectBorrowed<'_>,
+    b: BVectBorrowed<'_>,
+    out: &mut [u64],
+) -> Result<Written, Refusal>
+    ensures { Combines Or (seen a.entry) (seen b.entry) out.old result out.new }
 {
-    bit::vector_or(dims_a, a, dims_b, b, out)
+    bit::vector_or(a, b, out)
 }
 
-pub fn operator_xor(dims_a: u32, a: &[u64], dims_b: u32, b: &[u64], out: &mut [u64]) -> Written
-    ensures { Combines Xor dims_a a.now dims_b b.now out.old result out.new }
+pub fn operator_xor(
+    a: BVectBorrowed<'_>,
+    b: BVectBorrowed<'_>,
+    out: &mut [u64],
+) -> Result<Written, Refusal>
+    ensures { Combines Xor (seen a.entry) (seen b.entry) out.old result out.new }
 {
-    bit::vector_xor(dims_a, a, dims_b, b, out)
+    bit::vector_xor(a, b, out)
 }
 
 // Writes the bits that the bounds name to the front of `out`, and answers their dims and words. Refuses
-// as `new_checked` does, and then with BOUNDS, ROOM.
-pub fn subvector(dims: u32, words: &[u64], from: Bound, to: Bound, out: &mut [u64]) -> Written
-    ensures { Cuts dims words.now from to out.old result out.new }
+// as `new_checked` does, and then with Bounds, Room.
+pub fn subvector(
+    v: BVectBorrowed<'_>,
+    from: Bound<u32>,
+    to: Bound<u32>,
+    out: &mut [u64],
+) -> Result<Written, Refusal>
+    ensures { Cuts (seen v.entry) from to out.old result out.new }
 {
-    if let Checked::Refused(number, place) = bit::check(dims, words) {
-        return Written::Refused(number, place);
-    }
-    let span = refusal::span_of(from, to, dims);
-    let Span::Of(start, end) = span else {
-        return Written::Refused(refusal::BOUNDS, 0);
+    v.check()?;
+    let Some(span) = refusal::span_of(from, to, v.dims) else {
+        return Err(Refusal::Bounds);
     };
-    let size = end - start;
-    let n = bit::words_for(size);
-    if out.len() < n {
-        return Written::Refused(refusal::ROOM, n);
+    let size = span.end - span.start;
+    let len = bit::words_for(size);
+    if out.len() < len {
+        return Err(Refusal::Room(len));
     }
-    bit_slices::gather_all(words, start as usize, end as usize, n, out);
-    Written::Done(size, n)
+    bit_slices::gather_all(v.data, span.start as usize, span.end as usize, len, out);
+    Ok(Written { dims: size, len })
 }
 
 // Whether two vectors have the same dims and the same words. Refuses as `new_checked` does, for the
-// left and then for the right.
-pub fn eq(dims_a: u32, a: &[u64], dims_b: u32, b: &[u64]) -> Asked
-    ensures { Equals dims_a a.now dims_b b.now result }
+// left and then for the right. A call and no `PartialEq`, since it may refuse; so `partial_cmp`. Words are compared by
+// `bit_orders`, where the wrong program for it is.
+pub fn eq(a: BVectBorrowed<'_>, b: BVectBorrowed<'_>) -> Result<bool, Refusal>
+    ensures { Equals (seen a.entry) (seen b.entry) result }
 {
-    if let Checked::Refused(number, place) = bit::check_each(dims_a, a, dims_b, b) {
-        return Asked::Refused(number, place);
-    }
-    if dims_a != dims_b {
-        return Asked::No;
-    }
-    if bit_orders::same_words(a, b) {
-        return Asked::Yes;
-    }
-    Asked::No
+    bit::check_each(a, b)?;
+    Ok(a.dims == b.dims && bit_orders::same_words(a.data, b.data))
 }
 
 // How two vectors compare: the lowest place at which they differ decides, and the side with the one is
-// Greater; vectors of different dims are Unordered. Refuses as `eq` does.
-pub fn partial_cmp(dims_a: u32, a: &[u64], dims_b: u32, b: &[u64]) -> Ordering
-    ensures { Compares dims_a a.now dims_b b.now result }
+// Greater; vectors of different dims have no order. Refuses as `eq` does.
+pub fn partial_cmp(a: BVectBorrowed<'_>, b: BVectBorrowed<'_>) -> Result<Option<Ordering>, Refusal>
+    ensures { Compares (seen a.entry) (seen b.entry) result }
 {
-    if let Checked::Refused(number, place) = bit::check_each(dims_a, a, dims_b, b) {
-        return Ordering::Refused(number, place);
+    bit::check_each(a, b)?;
+    if a.dims != b.dims {
+        return Ok(None);
     }
-    if dims_a != dims_b {
-        return Ordering::Unordered;
-    }
-    bit_orders::compare_all(a, b)
+    Ok(Some(bit_orders::compare_all(a.data, b.data)))
 }

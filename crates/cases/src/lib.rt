@@ -5,62 +5,48 @@
 // value's bits; every NaN is one and the same. `5:` is an index without a value and `:3f800000` a value without
 // an index. `.` is an entry whose index and value both have the bits eeeeeeee.
 //
-// Each reader starts at a place of the line and answers the place after what it read. What it cannot read it
-// leaves, so that a bad line is one that is not read to its end.
+// Each reader takes what it reads off the front of what is left of the line. What it cannot read it leaves, so that a
+// bad line is one that is not read to its end.
 #![tactic(auto)]
 
-pub mod bounds;
-mod digits;
-mod lists;
+mod entry;
+mod numeral;
 
-ghost use Rattle.std.specs.Prelude.{◌<◌, ◌≤◌, ◌≡◌, length};
+ghost use Rattle.std.specs.Prelude.{◌++◌, ◌≤◌, ◌≡◌, length};
 ghost use Rattle.io.specs.Counts.{IsPrefixLen};
 ghost use Rattle.cases.specs.Room.{Inside};
 
-use crate::digits::Longer;
+use std::ops::Bound;
 
 // The file descriptor of the standard input.
 const STDIN: i32 = 0;
 
 // What `.` stands for.
-pub const DOT_INDEX: u32 = 4008636142;
+pub const DOT_INDEX: u32 = 0xeeee_eeee;
 
 pub const DOT_VALUE: f32 = -36973140302885665537819410432.0;
 
-// A number, and the place after it.
+// How many bytes the cases of a program have room for.
+pub const ROOM: usize = 262144;
+
+// What is left of a line.
 #[derive(Clone, Copy)]
-pub struct Numeral {
-    pub value: u64,
-    pub at: usize,
+pub struct Line<'a> {
+    pub rest: &'a [u8],
 }
 
-// A number that a u32 holds, and the place after it.
-#[derive(Clone, Copy)]
-pub struct Small {
-    pub value: u32,
-    pub at: usize,
-}
-
-// The numbers of indexes and of values of two lists, and the place after them.
+// The numbers of indexes and of values of two lists.
 #[derive(Clone, Copy)]
 pub struct Shape {
     pub indexes: usize,
     pub values: usize,
-    pub at: usize,
-}
-
-// How many numbers stand in a row, and the place after them.
-#[derive(Clone, Copy)]
-pub struct Several {
-    pub many: usize,
-    pub at: usize,
 }
 
 // Room for the cases of a program.
-pub fn room() -> [u8; 262144]
+pub fn room() -> [u8; ROOM]
     ensures { 262144 ≡ length result }
 {
-    [0; 262144]
+    [0; ROOM]
 }
 
 // Reads standard input. Answers how many bytes there are; or 0, and says so, if the last line does not end.
@@ -68,48 +54,39 @@ pub fn input(space: &mut [u8]) -> usize
     ensures { IsPrefixLen result space.new }
 {
     let n = io::read_full(STDIN, space);
-    if 0 < n {
-        if space[n - 1] == b'\n' {
-            return n;
-        }
+    if let Some(b'\n') = space[..n].last() {
+        return n;
     }
     shown::text(b"the last line does not end\n");
     0
 }
 
-// Where the byte `c` stands first, from `from` on, or the length.
-pub fn find(s: &[u8], from: usize, c: u8) -> usize
-    requires { from ≤ length s.now }
-    ensures { (from ≤ result) × (result ≤ length s.now) }
+// Runs `case` on each line, up to the first that it says is no case. A last line that does not end is none.
+pub fn each_line<F: FnMut(&[u8]) -> bool + Drop>(s: &[u8], mut case: F)
+    requires { F.IsAlwaysCallable case }
 {
-    let mut at = from;
-    while at < s.len() {
-        if s[at] == c {
-            return at;
+    let Some(lines) = s.strip_suffix(b"\n") else {
+        return;
+    };
+    for line in lines.split(|c| *c == b'\n') {
+        if !case(line) {
+            return;
         }
-        at += 1;
     }
-    at
 }
 
-// The byte at a place, or 0 at the end.
+// Runs `each` on the lines of standard input, up to the first that it says is no case.
+pub fn run<F: FnMut(&[u8]) -> bool + Drop>(each: F)
+    requires { F.IsAlwaysCallable each }
+{
+    let mut space = room();
+    let n = input(&mut space);
+    each_line(&space[..n], each);
+}
+
+// The byte at a place, or 0 at the end: a byte 0 in a line is read like its end.
 pub fn byte(s: &[u8], at: usize) -> u8 {
-    if at < s.len() { s[at] } else { 0 }
-}
-
-// The place after `c`, where it stands at the place `at`, and else `at`.
-pub fn after(s: &[u8], at: usize, c: u8) -> usize {
-    if at < s.len() {
-        if s[at] == c {
-            return at + 1;
-        }
-    }
-    at
-}
-
-// The place after a bar or a space, and a space more: where the next part of the line starts.
-pub fn next(s: &[u8], at: usize) -> usize {
-    after(s, after(s, after(s, at, b' '), b'|'), b' ')
+    s.get(at).copied().unwrap_or(0)
 }
 
 // Prints a line that is a comment. Answers whether it is one.
@@ -122,24 +99,6 @@ pub fn comment(s: &[u8]) -> bool {
     true
 }
 
-// Prints a line's label and the bar after it. Answers the bar's place.
-pub fn label(s: &[u8]) -> usize {
-    let bar = find(s, 0, b'|');
-    shown::text(&s[0..bar]);
-    shown::text(b"|");
-    bar
-}
-
-// Prints a line's label, and neither the space before the bar nor the bar. Answers the bar's place.
-pub fn title(s: &[u8]) -> usize {
-    let bar = find(s, 0, b'|');
-    if 0 < bar {
-        let end = bar - 1;
-        shown::text(&s[0..end]);
-    }
-    bar
-}
-
 // Ends what is printed for a line. Answers, as it is told, whether the line is a case.
 pub fn ended(is_case: bool) -> bool {
     if is_case {
@@ -150,135 +109,165 @@ pub fn ended(is_case: bool) -> bool {
     is_case
 }
 
-// A number of base 16 or 10, as far as it goes and fits a u64; 0 where there is none.
-pub fn number(s: &[u8], from: usize, is_hex: bool) -> Numeral {
-    let mut value: u64 = 0;
-    let mut at = from;
-    while at < s.len() {
-        let m = digits::more(value, is_hex, s[at]);
-        match m {
-            Longer::Of(n) => value = n,
-            Longer::No => break,
+impl<'a> Line<'a> {
+    // Reads `c`, if it is next. Answers whether it was.
+    pub fn skip(&mut self, c: u8) -> bool {
+        if let Some((first, rest)) = self.rest.split_first() {
+            if *first == c {
+                self.rest = rest;
+                return true;
+            }
         }
-        at += 1;
+        false
     }
-    Numeral {
-        value: value,
-        at: at,
-    }
-}
 
-// A number of base 16 or 10 that a u32 holds. Where there is none it is 0, and the place is not moved.
-pub fn small_number(s: &[u8], from: usize, is_hex: bool) -> Small {
-    let n = number(s, from, is_hex);
-    if 4294967295 < n.value {
-        return Small { value: 0, at: from };
+    // Reads a bar or a space, and a space more: up to where the next part of the line starts.
+    pub fn next_part(&mut self) {
+        self.skip(b' ');
+        self.skip(b'|');
+        self.skip(b' ');
     }
-    Small {
-        value: n.value as u32,
-        at: n.at,
+
+    // Reads what stands before the next `c`, or all where there is none.
+    pub fn before(&mut self, c: u8) -> &'a [u8]
+        ensures { result.now ++ self.new.rest.now ≡ self.old.rest.now }
+    {
+        let end = finding::find(self.rest, c).unwrap_or(self.rest.len());
+        let (part, rest) = self.rest.split_at(end);
+        self.rest = rest;
+        part
     }
-}
 
-fn wide(c: u8) -> u64
-    ensures { result < 256 }
-{
-    c as u64
-}
+    // Prints a line's label and the bar after it. Leaves the bar.
+    pub fn label(&mut self) {
+        shown::text(self.before(b'|'));
+        shown::text(b"|");
+    }
 
-// A name, and the place after it. A name goes up to a space or the end, and is told by its last eight letters: they
-// are the digits of a number of base 256. So `bit` is 0x626974, as `b` is 0x62, `i` is 0x69 and `t` is 0x74.
-pub fn name(s: &[u8], from: usize) -> Numeral {
-    let mut value: u64 = 0;
-    let mut at = from;
-    while at < s.len() {
-        if s[at] == b' ' {
-            break;
+    // Prints a line's label, and neither the space before the bar nor the bar. Leaves the bar.
+    pub fn title(&mut self) {
+        if let Some((_, title)) = self.before(b'|').split_last() {
+            shown::text(title);
         }
-        value = value % 72057594037927936 * 256 + wide(s[at]);
-        at += 1;
     }
-    Numeral {
-        value: value,
-        at: at,
-    }
-}
 
-// The dims of a vector, after a bar. Of a vector that is not there they are 0, and the place is not moved.
-pub fn dims(s: &[u8], from: usize) -> Small {
-    let bar = after(s, from, b'|');
-    let start = after(s, bar, b' ');
-    let n = small_number(s, start, false);
-    let none = Small { value: 0, at: from };
-    if bar == from {
-        return none;
-    }
-    if n.at == start {
-        return none;
-    }
-    n
-}
-
-// Whether a number is read from a place up to another, and may end there: at a space, a bar or the end.
-fn is_number(s: &[u8], from: usize, at: usize) -> bool {
-    if at == from {
-        return false;
-    }
-    match byte(s, at) {
-        b' ' | b'|' | 0 => true,
-        _ => false,
-    }
-}
-
-// Numbers in a row of base 16 or 10, as many as the list has room for, each with a space, a bar or the line's
-// end after it.
-pub fn numbers(s: &[u8], from: usize, is_hex: bool, list: &mut [u64]) -> Several
-    ensures { result.many ≤ length list.old }
-{
-    let mut many: usize = 0;
-    let mut at = from;
-    while many < list.len() {
-        let n = number(s, at, is_hex);
-        if !is_number(s, at, n.at) {
-            break;
+    // A number of base 16 or 10, as far as it goes and fits a u64.
+    pub fn number(&mut self, base: u64) -> Option<u64> {
+        let mut number = None;
+        for c in self.rest {
+            let Some(longer) = numeral::longer(number.unwrap_or(0), base, *c) else {
+                break;
+            };
+            number = Some(longer);
+            self.skip(*c);
         }
-        list[many] = n.value;
-        many += 1;
-        at = after(s, n.at, b' ');
+        number
     }
-    Several { many: many, at: at }
-}
 
-// Two lists. Lists that are not there have no entries.
-pub fn entries(s: &[u8], from: usize, indexes: &mut [u32], values: &mut [f32]) -> Shape
-    ensures { Inside result indexes.old values.old }
-{
-    let mut v = Shape {
-        indexes: 0,
-        values: 0,
-        at: from,
-    };
-    while v.at < s.len() {
-        let w = lists::entry(s, v, indexes, values);
-        if w.at <= v.at {
-            break;
+    // A number that a u32 holds. One that it does not hold is left.
+    pub fn small(&mut self, base: u64) -> Option<u32> {
+        let mut line = *self;
+        let number = u32::try_from(line.number(base)?).ok()?;
+        *self = line;
+        Some(number)
+    }
+
+    // A name, which goes up to a space or the end: its last eight bytes, and of these no zeros in front. A program does the
+    // same on every name that ends in these.
+    pub fn name(&mut self) -> &'a [u8] {
+        let name = self.before(b' ');
+        let end = &name[name.len().saturating_sub(8)..];
+        match end.iter().position(|c| *c != 0) {
+            Some(i) => &end[i..],
+            None => &[],
         }
-        v = w;
     }
-    v
-}
 
-// The two lists of a vector, after its dims, which were looked for from a place on. Where there are none, the
-// vector is not there, and the place is not moved.
-pub fn vector(s: &[u8], from: usize, dims: Small, indexes: &mut [u32], values: &mut [f32]) -> Shape
-    ensures { Inside result indexes.old values.old }
-{
-    if dims.at == from {
-        return Shape {
+    // The dims of a vector, after a bar.
+    pub fn dims(&mut self) -> Option<u32> {
+        let mut line = *self;
+        if !line.skip(b'|') {
+            return None;
+        }
+        line.skip(b' ');
+        let dims = line.small(10)?;
+        *self = line;
+        Some(dims)
+    }
+
+    // Numbers in a row of base 16 or 10, as many as the list has room for, each with a space, a bar or the line's
+    // end after it. Answers how many.
+    pub fn numbers(&mut self, base: u64, list: &mut [u64]) -> usize
+        ensures { result ≤ length list.old }
+    {
+        for (many, place) in list.iter_mut().enumerate() {
+            let mut line = *self;
+            let Some(number) = line.number(base) else {
+                return many;
+            };
+            if !numeral::ends(byte(line.rest, 0)) {
+                return many;
+            }
+            *place = number;
+            line.skip(b' ');
+            *self = line;
+        }
+        list.len()
+    }
+
+    // Two lists. Lists that are not there have no entries. Each entry takes a byte at least.
+    pub fn entries(&mut self, indexes: &mut [u32], values: &mut [f32]) -> Shape
+        ensures { Inside result indexes.old values.old }
+    {
+        let mut shape = Shape {
             indexes: 0,
             values: 0,
-            at: from,
         };
+        for _ in self.rest {
+            if !self.entry(&mut shape, indexes, values) {
+                break;
+            }
+        }
+        shape
     }
-    entries(s, dims.at, indexes, values)
+
+    // A vector: its dims and its two lists. One that is not there has the dims 0 and no entries.
+    pub fn vector(&mut self, indexes: &mut [u32], values: &mut [f32]) -> (u32, Shape)
+        ensures { Inside result.1 indexes.old values.old }
+    {
+        match self.dims() {
+            Some(dims) => (dims, self.entries(indexes, values)),
+            None => (
+                0,
+                Shape {
+                    indexes: 0,
+                    values: 0,
+                },
+            ),
+        }
+    }
+
+    // One bound of a slice: `=4` is Included 4, `!4` is Excluded 4, and `*` is Unbounded. One that is not there is
+    // Unbounded.
+    fn bound(&mut self) -> Bound<u32> {
+        let mut line = *self;
+        line.next_part();
+        let bound = if line.skip(b'=') {
+            Bound::Included(line.small(10).unwrap_or(0))
+        } else if line.skip(b'!') {
+            Bound::Excluded(line.small(10).unwrap_or(0))
+        } else if line.skip(b'*') {
+            Bound::Unbounded
+        } else {
+            return Bound::Unbounded;
+        };
+        *self = line;
+        bound
+    }
+
+    // Two bounds.
+    pub fn bounds(&mut self) -> (Bound<u32>, Bound<u32>) {
+        let from = self.bound();
+        (from, self.bound())
+    }
 }

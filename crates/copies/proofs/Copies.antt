@@ -7,7 +7,8 @@ use mathlib.Core.List.{List}
 use mathlib.Core.Logic.{⊎_elim}
 use mathlib.Core.Path.{◌≡◌, refl, sym, ap, ◌∙◌}
 use lib.ListN.{length, get_or, set, take, drop, length-set, length-take, length-drop}
-use lib.Seq.{get_or-take, get_or-drop, get_or-set_other}
+use native.Mathlib.Nat.{add-sub_cancel_left}
+use lib.Seq.{paste, paste-zero, paste-suc, get_or-take, get_or-drop, get_or-set_other}
 use lib.Ieee.{Float, nan}
 use Rattle.copies.specs.Copies.{Clear, Before, copied, Copied}
 
@@ -33,6 +34,17 @@ module _ {ℓ} {A : Type ℓ} (d : A) (l : List A) (at n : ℕ) where
   copied_later (suc i) m h =
       get_or-set_other (copied d l at n i) (n + i) m (get_or (copied d l at n i) (at + i) d) d (λ e. omega arith) ∙ copied_later i m (omega arith)
 
+  -- it is what one copy of all of them leaves
+  copied_paste : (i : ℕ) → n ≤ at → at + i ≤ length l → paste l n (drop at l) i ≡ copied d l at n i
+  unfolding copied
+  copied_paste zero h f = sym (paste-zero l n (drop at l))
+  copied_paste (suc i) h f =
+      sym (paste-suc l n (drop at l) i d (omega arith) (simp length-drop (omega arith)))
+      ∙ rw (copied_paste i h (omega arith), get_or-drop at l i d, copied_later i (at + i) (omega arith))
+
+  copied_at_once : (i : ℕ) → n ≤ at → at + i ≤ length l → paste l n (drop at l) ((at + i) - at) ≡ copied d l at n i
+  copied_at_once i h f = rw (add-sub_cancel_left at i) (copied_paste i h f)
+
 -- ---- both lists
 module _ {si : List ℕ} {sv : List Float} {at cap n : ℕ} {ib : List ℕ} {q : ℕ} (r : Clear si sv at cap n) where
   pub copied_start : Copied si sv at cap n ib q 0 si sv
@@ -43,17 +55,19 @@ module _ {si : List ℕ} {sv : List Float} {at cap n : ℕ} {ib : List ℕ} {q :
     values = sym (copied_none nan sv at n);
   }
 
-  -- those that were found in the part that is read next
-  pub copied_found : {k : ℕ} → Before (take (cap - at) (drop at si)) ib q k → Copied si sv at cap n ib q k (copied 0 si at n k) (copied nan sv at n k)
-  copied_found {k} b =
+  -- those that were found in the part that is read next, and that were copied at once
+  pub copied_found : {k : ℕ} {si' : List ℕ} {sv' : List Float} → Before (take (cap - at) (drop at si)) ib q k
+      → si' ≡ paste si n (drop at si) ((at + k) - at) → sv' ≡ paste sv n (drop at sv) ((at + k) - at) → Copied si sv at cap n ib q k si' sv'
+  copied_found {k} b is vs =
       let long : length (take (cap - at) (drop at si)) ≡ cap - at = simp (length-take, length-drop) (omega (arith, r.order, r.long)) in
+      let within : at + k ≤ cap = omega (arith, b.0, r.order) in
       record {
-        within = omega (arith, b.0, r.order);
+        within = within;
         low = λ j h l.
             let e = get_or-take (cap - at) (drop at si) j 0 (omega (arith, b.0)) ∙ get_or-drop at si j 0 in
             rw e at (b.1 j h l);
-        indexes = refl;
-        values = refl;
+        indexes = is ∙ copied_at_once 0 si at n k r.clear (omega (arith, r.long));
+        values = vs ∙ copied_at_once nan sv at n k r.clear (omega (arith, r.long'));
       }
 
   module _ {k : ℕ} {si' : List ℕ} {sv' : List Float} (c : Copied si sv at cap n ib q k si' sv') where

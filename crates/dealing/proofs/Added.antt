@@ -11,7 +11,7 @@ use lib.Ieee.Fits.{and_i, and_l, and_r}
 use borrow.Author.Tests.{eq-eqb}
 use Rattle.whole.specs.Sums.{all}
 use Rattle.whole.proofs.Folds.{size_sum, all_append}
-use Rattle.refusal.specs.declared.Checked.TheVariants.{Valid}
+use Rattle.refusal.specs.Answers.{Valid}
 use Rattle.sparse.specs.Vectors.{Vector, vector, at}
 use Rattle.sparse.specs.Calls.{checked_of}
 use Rattle.sparse.specs.Numbers.{is_whole, number_at}

@@ -11,9 +11,9 @@ use lib.Ieee.Fits.{and_l, and_r}
 use lib.ListN.{length, replicate, length-replicate}
 use borrow.Author.Tests.{le-ltb}
 use Rattle.whole.specs.Sums.{all}
-use Rattle.refusal.specs.Numbers.{NEED}
-use Rattle.refusal.specs.declared.Checked.{Checked}
-use Rattle.refusal.specs.declared.Checked.TheVariants.{Valid, Refused}
+use Rattle.refusal.specs.Answers.{Checked, Valid}
+use Rattle.refusal.specs.declared.Refusal.TheVariants.{Need}
+use Rattle.std.proofs.Common.{Ok, Err}
 use Rattle.sparse.specs.Vectors.{Vector, size}
 use Rattle.sparse.specs.Calls.{checked_of}
 use Rattle.regions.specs.Capacity.{capacity_for}
@@ -24,13 +24,12 @@ use Rattle.headers.specs.Headers.{most_rows, passes, too_many}
 use Rattle.aggregate_svecf32.specs.States.{fresh, state_of}
 use Rattle.aggregate_svecf32.specs.Calls.{Deed, Acts, merge_of, spare, row_of}
 use Rattle.aggregate_svecf32.specs.declared.Header.{Header}
-use Rattle.aggregate_svecf32.specs.declared.Told.{Told}
 use Rattle.aggregate_svecf32.proofs.Consistent.{inside_facts, bare_state}
 use Rattle.aggregate_svecf32.proofs.Joined.{merge_need, merge_passes}
 use Rattle.aggregate_svecf32.proofs.Keeps.{Keeps, acts_indexes, acts_values, row_keeps, move_keeps}
 use Rattle.aggregate_svecf32.proofs.Outcomes.{row_some, move_some}
 use Rattle.dealing.specs.Demand.{Dealable}
-use Rattle.dealing.specs.Runs.{Store, State, state, here, Run, start, begin, Finished}
+use Rattle.dealing.specs.Runs.{Store, State, Told, state, here, Run, start, begin, Finished}
 use Rattle.dealing.proofs.Needs.{need_made_good}
 use Rattle.dealing.proofs.Stores.{changed, changed_at, fed, unfed, carried}
 
@@ -54,7 +53,7 @@ due r v = row_of r.h (r.m r.p) v
 
 -- a call has done its deed in the pair p
 abbrev reached : {d : ℕ} {rows : List Vector} (m : Store) → ((q : ℕ) → inside 0 d (m q) ≡ true) → (p : ℕ)
-    → {h : Header} {tests : Checked} {w : Deed} {t : Told} {x : Pair} → Acts h tests w (m p) t x → tests ≡ Valid → Keeps w t x
+    → {h : Header} {tests : Checked} {w : Deed} {t : Told} {k : Header} {x : Pair} → Acts h tests w (m p) t k x → tests ≡ Valid → Keeps w t k x
     → w.header.dims ≡ d → w.header.count ≡ length rows → Run (changed m p x) (state p w.header ∷ []) rows → Reached d rows
 reached {d} m long p {w = w} {x = x} acts e k dims count run = record {
   m = changed m p x;
@@ -96,8 +95,8 @@ module _ {d : ℕ} (v : Vector) (passed : checked_of v ≡ Valid) (same : v.dims
   first : Reached d (v ∷ [])
   first =
       let o = row_some (fresh 0 d) (blank d 0) v in
-      let k = row_keeps (fresh 0 d) (blank d 0) v o.2 first_due in
-      reached (blank d) (wide d) 0 o.2 first_due k same refl (rw k.told at (fed (alone d) (state 0 (fresh 0 d)) here v o.2))
+      let k = row_keeps (fresh 0 d) (blank d 0) v o.3 first_due in
+      reached (blank d) (wide d) 0 o.3 first_due k same refl (rw (k.told, k.header) at (fed (alone d) (state 0 (fresh 0 d)) here v o.3))
 
   -- ---- a later row
 
@@ -105,22 +104,22 @@ module _ {d : ℕ} (v : Vector) (passed : checked_of v ≡ Valid) (same : v.dims
     taking : due r v ≡ Valid → Reached d (v ∷ rows)
     taking e =
         let o = row_some r.h (r.m r.p) v in
-        let k = row_keeps r.h (r.m r.p) v o.2 e in
+        let k = row_keeps r.h (r.m r.p) v o.3 e in
         let b = r.begun in
-        reached r.m r.long r.p o.2 e k (rw b r.dims) (rw b (omega (arith, r.count)))
-        (rw k.told at (fed r.run (state r.p r.h) here v o.2))
+        reached r.m r.long r.p o.3 e k (rw b r.dims) (rw b (omega (arith, r.count)))
+        (rw (k.told, k.header) at (fed r.run (state r.p r.h) here v o.3))
 
     -- the row is refused with NEED, and the state moves; then it passes
-    moving : {c : ℕ} → due r v ≡ Refused NEED c → c ≤ d → (r' : Reached d rows) × (due r' v ≡ Valid)
+    moving : {c : ℕ} → due r v ≡ Err (Need c) → c ≤ d → (r' : Reached d rows) × (due r' v ≡ Valid)
     moving e room =
         let q = suc r.p in
         let good = need_made_good r.h (r.m r.p) (r.m q) 0 d (r.long q) room v e in
         let o = move_some r.h (r.m r.p) (size v) (r.m q) 0 d in
-        let k = move_keeps r.h (r.m r.p) (size v) (r.m q) 0 d o.2 good.0 in
+        let k = move_keeps r.h (r.m r.p) (size v) (r.m q) 0 d o.3 good.0 in
         let refused = unfed r.run (state r.p r.h) here v e in
-        let went = carried refused (state r.p r.h) here (size v) q 0 d tt o.2 in (
-          reached r.m r.long q o.2 good.0 k r.dims r.count (rw k.told at went),
-          rw (changed_at r.m q o.1) (rw k.told at (good.1 o.0 o.1 o.2)),
+        let went = carried refused (state r.p r.h) here (size v) q 0 d tt o.3 in (
+          reached r.m r.long q o.3 good.0 k r.dims r.count (rw (k.told, k.header) at went),
+          rw (changed_at r.m q o.2) (rw k.header at (good.1 o.0 o.1 o.2 o.3)),
         )
 
   later : {rows : List Vector} → Reached d rows → suc (length rows) ≤ most_rows → Reached d (v ∷ rows)
@@ -143,8 +142,8 @@ module _ {d : ℕ} (v : Vector) (passed : checked_of v ≡ Valid) (same : v.dims
 -- ---- all rows
 
 is_valid : (c : Checked) → T (passes c) → c ≡ Valid
-is_valid Valid t = refl
-is_valid (Refused n p) t = absurd t
+is_valid (Ok tt) t = refl
+is_valid (Err r) t = absurd t
 
 -- the first passes the test, and so do the others
 both : (t : Vector → Bool) (v : Vector) (rows : List Vector) → T (all t (v ∷ rows)) → T (t v) × T (all t rows)

@@ -4,10 +4,10 @@ use native.Mathlib.Omega.{arith}
 use mathlib.Core.Bool.{true, false}
 use mathlib.Core.List.{List, [], ◌∷◌, ◌++◌, append-nil}
 use mathlib.Core.Path.{◌≡◌, refl, ap₂, subst}
+use Rattle.std.proofs.Common.{Ok, Err}
 use lib.ListN.{length, length-append}
 use borrow.Author.Tests.{eqb-true}
-use Rattle.refusal.specs.declared.Checked.{Checked}
-use Rattle.refusal.specs.declared.Checked.TheVariants.{Valid, Refused}
+use Rattle.refusal.specs.Answers.{Checked, Valid}
 use Rattle.sparse.specs.Vectors.{Vector, vector}
 use Rattle.regions.specs.Capacity.{capacity_for}
 use Rattle.regions.specs.Regions.{Pair, Apart}
@@ -17,14 +17,12 @@ use Rattle.aggregate_svecf32.specs.States.{held, state_of}
 use Rattle.aggregate_svecf32.specs.Calls.{Deed, Acts, begun, merged, take_of, taken}
 use Rattle.aggregate_svecf32.specs.Calls.{row_of, Rows, combine_of, combined, Combines, move_of, Moves}
 use Rattle.aggregate_svecf32.specs.declared.Header.{Header}
-use Rattle.aggregate_svecf32.specs.declared.Told.{Told}
-use Rattle.aggregate_svecf32.specs.declared.Told.TheVariants.{Done, Refused as Stayed}
 use Rattle.aggregate_svecf32.proofs.Consistent.{Inside, Fair, Bare, state_sure, fair_state}
 use Rattle.aggregate_svecf32.proofs.Joined.{merge_passed}
-use Rattle.aggregate_svecf32.proofs.Keeps.{Fits, acts_kept, acts_told, acts_indexes, acts_values, fits_keeps}
+use Rattle.aggregate_svecf32.proofs.Keeps.{Fits, acts_kept, acts_told, acts_header, acts_indexes, acts_values, fits_keeps}
 use Rattle.aggregate_svecf32.proofs.Keeps.{row_tests, row_fits, combine_tests, combined_fits, combine_leaves, moved_fits}
 use Rattle.aggregate_svecf32.proofs.Moved.{moving}
-use Rattle.dealing.specs.Runs.{Same, handed, taken_in}
+use Rattle.dealing.specs.Runs.{Same, Told, taken_in}
 use Rattle.dealing.proofs.Added.{SumOf, sum_one, sum_both}
 
 -- ---- a state that took in the rows o
@@ -81,7 +79,7 @@ pub lies_same : (p : Pair) (h : Header) (o : List Vector) → Holding p h o → 
 lies_same p h o g = record { holding = g; begins = refl; long = refl; others = λ s k a. (refl, refl) }
 
 -- a deed is done whose vector is the sum of the rows o
-deed_lies : {h : Header} {due : Checked} {d : Deed} {p : Pair} {r : Told} {q : Pair} → Acts h due d p r q → due ≡ Valid → Fits d p
+deed_lies : {h : Header} {due : Checked} {d : Deed} {p : Pair} {r : Told} {k : Header} {q : Pair} → Acts h due d p r k q → due ≡ Valid → Fits d p
     → (o : List Vector) → SumOf d.vector o → d.header.count ≡ length o → Lies d.header.start d.header.length p q d.header o
 deed_lies {d = d} {p = p} {q = q} acts e f o s c =
     let k = fits_keeps acts e f in
@@ -100,16 +98,16 @@ deed_lies {d = d} {p = p} {q = q} acts e f o s c =
 
 -- it is the sum of the rows o', of which there are `more`
 module _ (p : Pair) (h : Header) (v : Vector) (more : ℕ) (o' : List Vector) (s : SumOf v o') (c : more ≡ length o')
-    {due : Checked} {r : Told} {q : Pair} (passes : due ≡ Valid) where
-  take_lies : (o : List Vector) → Holding p h o → Acts h due (taken h p v more) p r q → Fits (taken h p v more) p → take_of h v more ≡ Valid
+    {due : Checked} {r : Told} {g : Header} {q : Pair} (passes : due ≡ Valid) where
+  take_lies : (o : List Vector) → Holding p h o → Acts h due (taken h p v more) p r g q → Fits (taken h p v more) p → take_of h v more ≡ Valid
       → Lies h.start h.length p q (taken h p v more).header (o' ++ o)
   take_lies o (bare t z) acts f e =
       let d : taken h p v more ≡ begun h v more = rw t in
-      let a : Acts h due (begun h v more) p r q = subst (λ (d : Deed). Acts h due d p r q) d acts in
+      let a : Acts h due (begun h v more) p r g q = subst (λ (d : Deed). Acts h due d p r g q) d acts in
       rw (d, append-nil o') (deed_lies a passes (subst (λ (d : Deed). Fits d p) d f) o' s c)
   take_lies o (full t y n u) acts f e =
       let d : taken h p v more ≡ merged h p v more = rw t in
-      let a : Acts h due (merged h p v more) p r q = subst (λ (d : Deed). Acts h due d p r q) d acts in
+      let a : Acts h due (merged h p v more) p r g q = subst (λ (d : Deed). Acts h due d p r g q) d acts in
       let m = merge_passed h v more (rw t at e) in
       rw d
       (deed_lies a passes (subst (λ (d : Deed). Fits d p) d f) (o' ++ o) (sum_both (held h p) v o o' u s m.0)
@@ -119,43 +117,43 @@ module _ (p : Pair) (h : Header) (v : Vector) (more : ℕ) (o' : List Vector) (s
 
 -- the rows of a state, after those of another were to come to it
 abbrev pub took : Told → List Vector → List Vector → List Vector
-took (Done h turns) o' o = o' ++ o
-took (Stayed h n c) o' o = o
+took (Ok turns) o' o = o' ++ o
+took (Err e) o' o = o
 
-module _ (p : Pair) (h : Header) (o : List Vector) (g : Holding p h o) where
-  pub row_lies : (v : Vector) (r : Told) (q : Pair) → Rows h p v r q → Lies h.start h.length p q (handed r) (taken_in r v o)
-  row_lies v r q acts = go (row_of h p v) refl
+module _ (p : Pair) (h : Header) (o : List Vector) (hold : Holding p h o) where
+  pub row_lies : (v : Vector) (r : Told) (k : Header) (q : Pair) → Rows h p v r k q → Lies h.start h.length p q k (taken_in r v o)
+  row_lies v r g q acts = go (row_of h p v) refl
     where
-      go : (due : Checked) → row_of h p v ≡ due → Lies h.start h.length p q (handed r) (taken_in r v o)
-      go (Refused n c) e = let k = acts_kept acts e in rw (k.0, k.1) (lies_same p h o g)
-      go Valid e =
+      go : (due : Checked) → row_of h p v ≡ due → Lies h.start h.length p q g (taken_in r v o)
+      go (Err n) e = let k = acts_kept acts e in rw (k.0, k.1, k.2) (lies_same p h o hold)
+      go (Ok tt) e =
           let t = row_tests h p v e in
-          rw (acts_told acts e) (take_lies p h v 1 (v ∷ []) (sum_one v t.0) refl e o g acts (row_fits h p v e) t.2)
+          rw (acts_told acts e, acts_header acts e) (take_lies p h v 1 (v ∷ []) (sum_one v t.0) refl e o hold acts (row_fits h p v e) t.2)
 
-  pub combine_lies : (l : Pair) (k : Header) (o' : List Vector) → Holding l k o' → (r : Told) (q : Pair) → Combines h p k l r q
-      → Lies h.start h.length p q (handed r) (took r o' o)
-  combine_lies l k o' second r q acts = go (combine_of h p k l) refl o' second
+  pub combine_lies : (l : Pair) (k : Header) (o' : List Vector) → Holding l k o' → (r : Told) (g : Header) (q : Pair) → Combines h p k l r g q
+      → Lies h.start h.length p q g (took r o' o)
+  combine_lies l k o' second r g q acts = go (combine_of h p k l) refl o' second
     where
-      go : (due : Checked) → combine_of h p k l ≡ due → (o' : List Vector) → Holding l k o' → Lies h.start h.length p q (handed r) (took r o' o)
-      go (Refused n c) e o' second = let k = acts_kept acts e in rw (k.0, k.1) (lies_same p h o g)
-      go Valid e o' (bare t z) = let y = combine_leaves h p k l acts e t in rw (y.0, y.1) (lies_same p h o g)
-      go Valid e o' (full t y n u) =
+      go : (due : Checked) → combine_of h p k l ≡ due → (o' : List Vector) → Holding l k o' → Lies h.start h.length p q g (took r o' o)
+      go (Err n) e o' second = let k = acts_kept acts e in rw (k.0, k.1, k.2) (lies_same p h o hold)
+      go (Ok tt) e o' (bare t z) = let y = combine_leaves h p k l acts e t in rw (y.0, y.1, y.2) (lies_same p h o hold)
+      go (Ok tt) e o' (full t y n u) =
           let d : combined h p k l ≡ taken h p (held k l) k.count = rw t in
-          let a = subst (λ (d : Deed). Acts h (combine_of h p k l) d p r q) d acts in
+          let a = subst (λ (d : Deed). Acts h (combine_of h p k l) d p r g q) d acts in
           let f = subst (λ (d : Deed). Fits d p) d (combined_fits h p k l t e) in
-          rw (acts_told a e) (take_lies p h (held k l) k.count o' u n e o g a f (rw t at (combine_tests h p k l e).2))
+          rw (acts_told a e, acts_header a e) (take_lies p h (held k l) k.count o' u n e o hold a f (rw t at (combine_tests h p k l e).2))
 
   -- a move leaves the state in its new region, or where it was
-  abbrev pub Went : ℕ → ℕ → Pair → Told → Pair → Type 0
-  Went start long q (Done k turns) q' = Lies start long q q' k o
-  Went start long q (Stayed k n c) q' = (k ≡ h) × (q' ≡ q)
+  abbrev pub Went : ℕ → ℕ → Pair → Told → Header → Pair → Type 0
+  Went start long q (Ok turns) k q' = Lies start long q q' k o
+  Went start long q (Err e) k q' = (k ≡ h) × (q' ≡ q)
 
-  pub move_lies : (more : ℕ) (q : Pair) (start long : ℕ) (r : Told) (q' : Pair) → Moves h p more q start long r q' → Went start long q r q'
-  move_lies more q start long r q' acts = go (move_of h p more q start long) refl
+  pub move_lies : (more : ℕ) (q : Pair) (start long : ℕ) (r : Told) (k : Header) (q' : Pair) → Moves h p more q start long r k q' → Went start long q r k q'
+  move_lies more q start long r g q' acts = go (move_of h p more q start long) refl
     where
-      go : (due : Checked) → move_of h p more q start long ≡ due → Went start long q r q'
-      go (Refused n c) e = let k = acts_kept acts e in rw k.0 (refl, k.1)
-      go Valid e = rw (acts_told acts e) (deed_lies acts e (moved_fits h p more q start long e) o (sum o g) (count o g))
+      go : (due : Checked) → move_of h p more q start long ≡ due → Went start long q r g q'
+      go (Err n) e = let k = acts_kept acts e in rw k.0 (k.1, k.2)
+      go (Ok tt) e = rw (acts_told acts e, acts_header acts e) (deed_lies acts e (moved_fits h p more q start long e) o (sum o hold) (count o hold))
         where
           some : 1 ≤ h.count
           some = (moving h p more q start long e).sure.fair.some

@@ -5,14 +5,13 @@ use mathlib.Core.List.Perm
 use mathlib.Core.List.{List, [], ◌∷◌, ◌++◌, append_assoc, Perm}
 use mathlib.Core.List.{perm_append_comm}
 use mathlib.Core.Path.{◌≡◌, refl, sym}
+use Rattle.std.proofs.Common.{Ok, Err}
 use Rattle.sparse.specs.Vectors.{Vector}
 use Rattle.regions.specs.Regions.{Pair}
 use Rattle.aggregate_svecf32.specs.States.{fresh}
 use Rattle.aggregate_svecf32.specs.Calls.{Rows, Combines, Moves}
 use Rattle.aggregate_svecf32.specs.declared.Header.{Header}
-use Rattle.aggregate_svecf32.specs.declared.Told.{Told}
-use Rattle.aggregate_svecf32.specs.declared.Told.TheVariants.{Done, Refused}
-use Rattle.dealing.specs.Runs.{Store, State, state, Pick, here, there, Each, Clear, Kept, Only, handed, taken_in, remain, IfDone}
+use Rattle.dealing.specs.Runs.{Store, State, state, Pick, here, there, Each, Clear, Kept, Only, Told, taken_in, remain, IfDone}
 use Rattle.dealing.specs.Runs.{lies_in}
 use Rattle.dealing.specs.Runs.{Run, start, elsewhere, begin, feed, meet, carry}
 use Rattle.dealing.proofs.Holding.{Holding, bare, holding_kept, Lies, lies_same, took, row_lies, combine_lies, Went, move_lies}
@@ -79,42 +78,42 @@ module _ {m m' : Store} {p at n : ℕ} {h : Header} {own : List Vector} (only : 
 
 -- ---- the steps, each with its state in front
 
-own_fed : {m m' : Store} {s : State} {rest : List State} {rows : List Vector} → Owns m (s ∷ rest) rows → (v : Vector) (t : Told)
-    → Only s.lists m m' → Rows s.header (m s.lists) v t (m' s.lists) → Owns m' (state s.lists (handed t) ∷ rest) (taken_in t v rows)
-own_fed {m} {m'} {s} {rows = rows} (more own others h f w p) v t only acts =
-    lands only (row_lies (m s.lists) s.header own h v t (m' s.lists) acts) f w (go t)
+own_fed : {m m' : Store} {s : State} {rest : List State} {rows : List Vector} → Owns m (s ∷ rest) rows → (v : Vector) (t : Told) (k : Header)
+    → Only s.lists m m' → Rows s.header (m s.lists) v t k (m' s.lists) → Owns m' (state s.lists k ∷ rest) (taken_in t v rows)
+own_fed {m} {m'} {s} {rows = rows} (more own others h f w p) v t k only acts =
+    lands only (row_lies (m s.lists) s.header own h v t k (m' s.lists) acts) f w (go t)
   where
     go : (t : Told) → Perm (taken_in t v own ++ others) (taken_in t v rows)
-    go (Done k turns) = Perm.cons v p
-    go (Refused k n c) = p
+    go (Ok turns) = Perm.cons v p
+    go (Err e) = p
 
-own_met : {m m' : Store} {a b : State} {others rest : List State} {rows : List Vector} → Owns m (a ∷ others) rows → Pick b others rest → (t : Told)
-    → Only a.lists m m' → Combines a.header (m a.lists) b.header (m b.lists) t (m' a.lists)
-    → Owns m' (state a.lists (handed t) ∷ remain t b rest) rows
-own_met {m} {m'} {a} {b} {rest = rest} {rows = rows} (more own x h f w p) l t only acts = two (own_pick l w)
+own_met : {m m' : Store} {a b : State} {others rest : List State} {rows : List Vector} → Owns m (a ∷ others) rows → Pick b others rest → (t : Told) (g : Header)
+    → Only a.lists m m' → Combines a.header (m a.lists) b.header (m b.lists) t g (m' a.lists)
+    → Owns m' (state a.lists g ∷ remain t b rest) rows
+own_met {m} {m'} {a} {b} {rest = rest} {rows = rows} (more own x h f w p) l t g only acts = two (own_pick l w)
   where
     free : Each (Free a) (b ∷ rest)
     free = each_pick (Free a) l f
 
-    two : Owns m (b ∷ rest) x → Owns m' (state a.lists (handed t) ∷ remain t b rest) rows
-    two (more o y k e w q) = go t (combine_lies (m a.lists) a.header own h (m b.lists) b.header o k t (m' a.lists) acts)
+    two : Owns m (b ∷ rest) x → Owns m' (state a.lists g ∷ remain t b rest) rows
+    two (more o y k e w q) = go t (combine_lies (m a.lists) a.header own h (m b.lists) b.header o k t g (m' a.lists) acts)
       where
-        go : (t : Told) → Lies a.header.start a.header.length (m a.lists) (m' a.lists) (handed t) (took t o own)
-            → Owns m' (state a.lists (handed t) ∷ remain t b rest) rows
-        go (Done g turns) r =
+        go : (t : Told) → Lies a.header.start a.header.length (m a.lists) (m' a.lists) g (took t o own)
+            → Owns m' (state a.lists g ∷ remain t b rest) rows
+        go (Ok turns) r =
             lands only r free.1 w (rw (append_assoc o own y) (Perm.trans (turn o own y) (Perm.trans (Perm.append_left own q) p)))
-        go (Refused g n c) r = lands only r free (more o y k e w q) p
+        go (Err n) r = lands only r free (more o y k e w q) p
 
 own_carried : {m m' : Store} {s : State} {rest : List State} {rows : List Vector} → Owns m (s ∷ rest) rows → (n p at long : ℕ)
-    → (t : Told) → IfDone t (Each (Clear p at long) rest) → Only p m m' → Moves s.header (m s.lists) n (m p) at long t (m' p)
-    → Owns m' (state (lies_in t s.lists p) (handed t) ∷ rest) rows
-own_carried {m} {m'} {s} {rest} {rows} (more own others h f w q) n p at long t c only acts =
-    go t c (move_lies (m s.lists) s.header own h n (m p) at long t (m' p) acts)
+    → (t : Told) (g : Header) → IfDone t (Each (Clear p at long) rest) → Only p m m' → Moves s.header (m s.lists) n (m p) at long t g (m' p)
+    → Owns m' (state (lies_in t s.lists p) g ∷ rest) rows
+own_carried {m} {m'} {s} {rest} {rows} (more own others h f w q) n p at long t g c only acts =
+    go t c (move_lies (m s.lists) s.header own h n (m p) at long t g (m' p) acts)
   where
-    go : (t : Told) → IfDone t (Each (Clear p at long) rest) → Went (m s.lists) s.header own h at long (m p) t (m' p)
-        → Owns m' (state (lies_in t s.lists p) (handed t) ∷ rest) rows
-    go (Done g turns) c l = lands only l c w q
-    go (Refused g k i) c l =
+    go : (t : Told) → IfDone t (Each (Clear p at long) rest) → Went (m s.lists) s.header own h at long (m p) t g (m' p)
+        → Owns m' (state (lies_in t s.lists p) g ∷ rest) rows
+    go (Ok turns) c l = lands only l c w q
+    go (Err k) c l =
         lands {at = s.header.start} {n = s.header.length} {own = own} (λ u e. same u)
         (rw (l.0, same s.lists) (lies_same (m s.lists) s.header own h)) f w q
       where
@@ -130,6 +129,6 @@ pub owns : {m : Store} {ss : List State} {rows : List Vector} → Run m ss rows 
 owns (start m) = none
 owns (elsewhere r m' k) = own_kept k (owns r)
 owns (begin {m = m} {rows = rows} r p at n c) = more [] rows (fresh_bare (m p) at n) c (owns r) (Perm.refl rows)
-owns (feed r s rest k v t m' o acts) = own_fed (own_pick k (owns r)) v t o acts
-owns (meet r a others k b rest l u t m' o acts) = own_met (own_pick k (owns r)) l t o acts
-owns (carry r s rest k n p at long t c m' o acts) = own_carried (own_pick k (owns r)) n p at long t c o acts
+owns (feed r s rest k v t h m' o acts) = own_fed (own_pick k (owns r)) v t h o acts
+owns (meet r a others k b rest l u t h m' o acts) = own_met (own_pick k (owns r)) l t h o acts
+owns (carry r s rest k n p at long t h c m' o acts) = own_carried (own_pick k (owns r)) n p at long t h c o acts

@@ -1,18 +1,13 @@
 -- The lists after a step that wrote one pair of them, and the steps that leave them so. Assumes nothing.
-use Prim.Native.Nat.{ℕ}
-use mathlib.Core.Bool.{cond}
-use mathlib.Core.List.{List, ◌∷◌}
-use mathlib.Core.Path.{◌≡◌, refl}
-use lib.Dec.{eqb}
+use Rattle.std.proofs.Common.{◌≡◌, ℕ, cond, eqb, List, ◌∷◌, Ok, Err, refl}
 use borrow.Author.Tests.{eq-eqb, ne_eqb}
 use Rattle.sparse.specs.Vectors.{Vector}
 use Rattle.regions.specs.Regions.{Pair}
-use Rattle.refusal.specs.declared.Checked.TheVariants.{Refused}
+use Rattle.refusal.specs.declared.Refusal.{Refusal}
 use Rattle.aggregate_svecf32.specs.Calls.{row_of, Rows, Moves, taken}
-use Rattle.aggregate_svecf32.specs.declared.Told.{Told}
-use Rattle.aggregate_svecf32.specs.declared.Told.TheVariants.{Done, Refused as Stayed}
+use Rattle.aggregate_svecf32.specs.declared.Header.{Header}
 use Rattle.aggregate_svecf32.proofs.Acting.{acts_refused}
-use Rattle.dealing.specs.Runs.{Store, State, state, Pick, Each, Clear, Only, handed, taken_in, IfDone, lies_in, Run, feed, carry}
+use Rattle.dealing.specs.Runs.{Store, State, state, Pick, Each, Clear, Only, Told, taken_in, IfDone, lies_in, Run, feed, carry}
 
 -- the pair p is x now
 abbrev pub changed : Store → ℕ → Pair → Store
@@ -26,21 +21,21 @@ module _ (m : Store) (p : ℕ) (x : Pair) where
   only q other = rw (ne_eqb q p other)
 
 if_done : (t : Told) {A : Type 0} → A → IfDone t A
-if_done (Done h turns) a = a
-if_done (Stayed h n c) a = tt
+if_done (Ok turns) a = a
+if_done (Err e) a = tt
 
 module _ {m : Store} {ss : List State} {rows : List Vector} (run : Run m ss rows) (s : State) {rest : List State} (pick : Pick s ss rest) where
-  pub fed : (v : Vector) {t : Told} {x : Pair} → Rows s.header (m s.lists) v t x
-      → Run (changed m s.lists x) (state s.lists (handed t) ∷ rest) (taken_in t v rows)
-  fed v {t} {x} acts =
-      feed run s rest pick v t (changed m s.lists x) (only m s.lists x) (rw (changed_at m s.lists x) acts)
+  pub fed : (v : Vector) {t : Told} {h : Header} {x : Pair} → Rows s.header (m s.lists) v t h x
+      → Run (changed m s.lists x) (state s.lists h ∷ rest) (taken_in t v rows)
+  fed v {t} {h} {x} acts =
+      feed run s rest pick v t h (changed m s.lists x) (only m s.lists x) (rw (changed_at m s.lists x) acts)
 
   -- a row that was refused
-  pub unfed : (v : Vector) {n c : ℕ} → row_of s.header (m s.lists) v ≡ Refused n c → Run m (s ∷ rest) rows
-  unfed v {n} {c} e = feed run s rest pick v (Stayed s.header n c) m (λ q other. refl) (acts_refused (taken s.header (m s.lists) v 1) e)
+  pub unfed : (v : Vector) {r : Refusal} → row_of s.header (m s.lists) v ≡ Err r → Run m (s ∷ rest) rows
+  unfed v {r} e = feed run s rest pick v (Err r) s.header m (λ q other. refl) (acts_refused (taken s.header (m s.lists) v 1) e)
 
   pub carried : (more p at n : ℕ) → Each (Clear p at n) rest
-      → {t : Told} {x : Pair} → Moves s.header (m s.lists) more (m p) at n t x
-      → Run (changed m p x) (state (lies_in t s.lists p) (handed t) ∷ rest) rows
-  carried more p at n clear {t} {x} acts =
-      carry run s rest pick more p at n t (if_done t clear) (changed m p x) (only m p x) (rw (changed_at m p x) acts)
+      → {t : Told} {h : Header} {x : Pair} → Moves s.header (m s.lists) more (m p) at n t h x
+      → Run (changed m p x) (state (lies_in t s.lists p) h ∷ rest) rows
+  carried more p at n clear {t} {h} {x} acts =
+      carry run s rest pick more p at n t h (if_done t clear) (changed m p x) (only m p x) (rw (changed_at m p x) acts)

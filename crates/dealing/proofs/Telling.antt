@@ -13,8 +13,7 @@ use lib.Ieee.{Float, binary32, fits}
 use lib.Ieee.Fits.{and_l}
 use Rattle.whole.specs.Sums.{all}
 use Rattle.whole.proofs.Folds.{size_sum, perm_sum, perm_weight, perm_all, perm_length}
-use Rattle.refusal.specs.declared.Checked.{Checked}
-use Rattle.refusal.specs.declared.Checked.TheVariants.{Valid}
+use Rattle.refusal.specs.Answers.{Checked, Valid}
 use Rattle.sparse.specs.Cells.{index_of, indexes_below}
 use Rattle.sparse.specs.Vectors.{Vector, vector, size, at}
 use Rattle.sparse.specs.Calls.{checked_of, room_of, Leaves}

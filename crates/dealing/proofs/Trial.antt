@@ -17,7 +17,8 @@ use Rattle.places.specs.Below.{count_below, any_below}
 use Rattle.places.specs.Search.{first_from}
 use Rattle.whole.specs.Sums.{all}
 use Rattle.whole.specs.Whole.{integer}
-use Rattle.refusal.specs.Numbers.{ROOM, NEED}
+use Rattle.std.proofs.Common.{Ok, Err}
+use Rattle.refusal.specs.declared.Refusal.TheVariants.{Room, Need}
 use Rattle.sparse.specs.Cells.{look, indexes_below, values_below}
 use Rattle.sparse.specs.Calls.{checked_of}
 use Rattle.sparse.specs.Numbers.{number_at}
@@ -30,7 +31,6 @@ use Rattle.regions.specs.Regions.{Pair, pair}
 use Rattle.aggregate_svecf32.specs.States.{header, fresh, held, consistent, state_of}
 use Rattle.aggregate_svecf32.specs.Calls.{taken, combined, moved, row_of, Rows, combine_of, Combines, move_of, Moves}
 use Rattle.aggregate_svecf32.specs.declared.Header.{Header}
-use Rattle.aggregate_svecf32.specs.declared.Told.TheVariants.{Done, Refused}
 use Rattle.aggregate_svecf32.proofs.Acting.{acts_done, acts_refused}
 use Rattle.dealing.specs.Demand.{Dealable, Exact, Takes, Tells}
 use Rattle.dealing.specs.Runs.{Store, State, state, here, there, Only, Run, start, elsewhere, begin, feed, meet, carry, Finished}
@@ -120,14 +120,14 @@ a4 = header 1 17 true 17 16 17 3
 -- ---- the calls: what they answer, and leave
 
 record Calls : Type 0 where
-  short : Rows (fresh 32 8) x0 v1 (Refused (fresh 32 8) ROOM 16) x0
-  begins : Rows (fresh 0 16) x0 v1 (Done a1 16) x1
-  needs : Rows a1 x1 v2 (Refused a1 NEED 17) x1
-  moves : Moves a1 x1 1 x0 1 17 (Done a2 0) y1
-  merges : Rows a2 y1 v2 (Done a3 1) y2
-  other : Rows (fresh 16 16) x0 v3 (Done b1 1) x2
-  meets : Combines a3 y2 b1 x2 (Done a4 14) y3
-  bare : Combines a4 y3 (fresh 32 8) x2 (Done a4 0) y3
+  short : Rows (fresh 32 8) x0 v1 (Err (Room 16)) (fresh 32 8) x0
+  begins : Rows (fresh 0 16) x0 v1 (Ok 16) a1 x1
+  needs : Rows a1 x1 v2 (Err (Need 17)) a1 x1
+  moves : Moves a1 x1 1 x0 1 17 (Ok 0) a2 y1
+  merges : Rows a2 y1 v2 (Ok 1) a3 y2
+  other : Rows (fresh 16 16) x0 v3 (Ok 1) b1 x2
+  meets : Combines a3 y2 b1 x2 (Ok 14) a4 y3
+  bare : Combines a4 y3 (fresh 32 8) x2 (Ok 0) a4 y3
 
 calls : Calls
 unfolding row_of combine_of move_of state_of consistent checked_of capacity_for first_from any_below count_below look indexes_below values_below
@@ -170,38 +170,38 @@ r0 =
 
 -- v1 comes to c, which has too few places, and then to a
 r1 : Run (lists x0 x0) (c0 ∷ b0 ∷ a0 ∷ []) []
-r1 = feed r0 c0 (b0 ∷ a0 ∷ []) here v1 (Refused (fresh 32 8) ROOM 16) (lists x0 x0) (only0 x0 x0 x0) calls.short
+r1 = feed r0 c0 (b0 ∷ a0 ∷ []) here v1 (Err (Room 16)) (fresh 32 8) (lists x0 x0) (only0 x0 x0 x0) calls.short
 
 r2 : Run (lists x1 x0) (state 0 a1 ∷ c0 ∷ b0 ∷ []) (v1 ∷ [])
-r2 = feed r1 a0 (c0 ∷ b0 ∷ []) (there (there here)) v1 (Done a1 16) (lists x1 x0) (only0 x0 x1 x0) calls.begins
+r2 = feed r1 a0 (c0 ∷ b0 ∷ []) (there (there here)) v1 (Ok 16) a1 (lists x1 x0) (only0 x0 x1 x0) calls.begins
 
 -- v2 comes to a, which has no room, moves, and takes it
 r3 : Run (lists x1 x0) (state 0 a1 ∷ c0 ∷ b0 ∷ []) (v1 ∷ [])
-r3 = feed r2 (state 0 a1) (c0 ∷ b0 ∷ []) here v2 (Refused a1 NEED 17) (lists x1 x0) (only0 x1 x1 x0) calls.needs
+r3 = feed r2 (state 0 a1) (c0 ∷ b0 ∷ []) here v2 (Err (Need 17)) a1 (lists x1 x0) (only0 x1 x1 x0) calls.needs
 
 r4 : Run (lists x1 y1) (state 1 a2 ∷ c0 ∷ b0 ∷ []) (v1 ∷ [])
 r4 =
     carry r3 (state 0 a1) (c0 ∷ b0 ∷ []) here 1 1 1 17
-    (Done a2 0) ((λ e. absurd (omega arith)), ((λ e. absurd (omega arith)), tt)) (lists x1 y1) (only1 x1 x0 y1) calls.moves
+    (Ok 0) a2 ((λ e. absurd (omega arith)), ((λ e. absurd (omega arith)), tt)) (lists x1 y1) (only1 x1 x0 y1) calls.moves
 
 r5 : Run (lists x1 y2) (state 1 a3 ∷ c0 ∷ b0 ∷ []) (v2 ∷ v1 ∷ [])
-r5 = feed r4 (state 1 a2) (c0 ∷ b0 ∷ []) here v2 (Done a3 1) (lists x1 y2) (only1 x1 y1 y2) calls.merges
+r5 = feed r4 (state 1 a2) (c0 ∷ b0 ∷ []) here v2 (Ok 1) a3 (lists x1 y2) (only1 x1 y1 y2) calls.merges
 
 -- where a lay anything is written; v3 comes to b
 r6 : Run (lists x0 y2) (state 1 a3 ∷ c0 ∷ b0 ∷ []) (v2 ∷ v1 ∷ [])
 r6 = elsewhere r5 (lists x0 y2) (search)
 
 r7 : Run (lists x2 y2) (state 0 b1 ∷ state 1 a3 ∷ c0 ∷ []) rows
-r7 = feed r6 b0 (state 1 a3 ∷ c0 ∷ []) (there (there here)) v3 (Done b1 1) (lists x2 y2) (only0 x0 x2 y2) calls.other
+r7 = feed r6 b0 (state 1 a3 ∷ c0 ∷ []) (there (there here)) v3 (Ok 1) b1 (lists x2 y2) (only0 x0 x2 y2) calls.other
 
 -- b meets a, and then c does
 r8 : Run (lists x2 y3) (state 1 a4 ∷ c0 ∷ []) rows
 r8 =
     meet r7 (state 1 a3) (state 0 b1 ∷ c0 ∷ []) (there here) (state 0 b1) (c0 ∷ []) here (λ e. omega arith)
-    (Done a4 14) (lists x2 y3) (only1 x2 y2 y3) calls.meets
+    (Ok 14) a4 (lists x2 y3) (only1 x2 y2 y3) calls.meets
 
 pub trial : Finished (lists x2 y3) (state 1 a4) rows
-trial = meet r8 (state 1 a4) (c0 ∷ []) here c0 [] here (λ e. omega arith) (Done a4 0) (lists x2 y3) (only1 x2 y3 y3) calls.bare
+trial = meet r8 (state 1 a4) (c0 ∷ []) here c0 [] here (λ e. omega arith) (Ok 0) a4 (lists x2 y3) (only1 x2 y3 y3) calls.bare
 
 -- ---- its rows are as the theorem takes them
 

@@ -1,8 +1,9 @@
 -- The sentence that the theorem stands for: what it takes, and what it tells. docs/PROMISES.md has it whole.
-use Rattle.std.specs.Prelude.{ℕ, ◌≤◌, List, ◌≡◌, T, eqb, length, Float}
+use Rattle.std.specs.Prelude.{ℕ, ◌≤◌, List, ◌≡◌, T, eqb, length, Float, Result}
 use Rattle.std.specs.Float.{binary32}
 use Rattle.std.specs.Float.Ieee.{fits}
 use Rattle.whole.specs.Sums.{all}
+use Rattle.refusal.specs.declared.Refusal.{Refusal}
 use Rattle.refusal.specs.declared.Written.{Written}
 use Rattle.sparse.specs.Vectors.{Vector, size}
 use Rattle.sparse.specs.Calls.{checked_of, room_of, Leaves}
@@ -43,7 +44,7 @@ pub record Takes (d : ℕ) (rows : List Vector) : Type 0 where
 -- ---- what it tells
 
 -- a call writes v to the outputs oi and ov, if they have room for its entries
-abbrev pub Gives : Vector → List ℕ → List Float → Written → List ℕ → List Float → Type 0
+abbrev pub Gives : Vector → List ℕ → List Float → Result Written Refusal → List ℕ → List Float → Type 0
 Gives v oi ov = Leaves (room_of (size v) (length oi) (length ov)) v oi ov
 
 -- of a state that lies in the lists m
@@ -51,18 +52,18 @@ pub record Tells (m : Store) (s : State) (d : ℕ) (rows : List Vector) : Type 0
   -- "Its count is the number of rows"
   pub count : s.header.count ≡ length rows
   -- "its sum holds exactly the nonzero whole-number totals in rising index order": so whatever `sum` answers and leaves
-  pub sum : (oi : List ℕ) (ov : List Float) (r : Written) (oi' : List ℕ) (ov' : List Float)
+  pub sum : (oi : List ℕ) (ov : List Float) (r : Result Written Refusal) (oi' : List ℕ) (ov' : List Float)
       → Sums s.header (m s.lists) oi ov r oi' ov' → Gives (totals d rows) oi ov r oi' ov'
   -- "its average is each total divided once by the count": so whatever `average` answers and leaves
-  pub average : (oi : List ℕ) (ov : List Float) (r : Written) (oi' : List ℕ) (ov' : List Float)
+  pub average : (oi : List ℕ) (ov : List Float) (r : Result Written Refusal) (oi' : List ℕ) (ov' : List Float)
       → Averages s.header (m s.lists) oi ov r oi' ov' → Gives (averages d rows) oi ov r oi' ov'
 
 -- "Dealing, order and tree change no bit": the counts of two states are equal, and so is all that `sum` and `average` answer and write
 pub record Alike (m : Store) (s : State) (m' : Store) (s' : State) : Type 0 where
   pub count : s.header.count ≡ s'.header.count
-  pub sum : (oi : List ℕ) (ov : List Float) (r r' : Written) (xi yi : List ℕ) (xv yv : List Float)
+  pub sum : (oi : List ℕ) (ov : List Float) (r r' : Result Written Refusal) (xi yi : List ℕ) (xv yv : List Float)
       → Sums s.header (m s.lists) oi ov r xi xv → Sums s'.header (m' s'.lists) oi ov r' yi yv
       → (r ≡ r') × (xi ≡ yi) × (xv ≡ yv)
-  pub average : (oi : List ℕ) (ov : List Float) (r r' : Written) (xi yi : List ℕ) (xv yv : List Float)
+  pub average : (oi : List ℕ) (ov : List Float) (r r' : Result Written Refusal) (xi yi : List ℕ) (xv yv : List Float)
       → Averages s.header (m s.lists) oi ov r xi xv → Averages s'.header (m' s'.lists) oi ov r' yi yv
       → (r ≡ r') × (xi ≡ yi) × (xv ≡ yv)

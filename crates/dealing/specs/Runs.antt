@@ -1,14 +1,13 @@
 -- Rows dealt to states: what a run is. A run is any finite sequence of steps, over any number of pairs of lists and of states. Each step that
 -- calls does anything that the promise of that call permits (`Rows`, `Combines`, `Moves` of crates/aggregate_svecf32/specs/Calls.antt),
 -- refusals and open entries included. In quotes is the sentence that the theorem stands for; docs/PROMISES.md has it whole.
-use Rattle.std.specs.Prelude.{ℕ, true, List, [], ◌∷◌, ◌≡◌}
+use Rattle.std.specs.Prelude.{ℕ, true, List, [], ◌∷◌, ◌≡◌, Result, Ok, Err}
+use Rattle.refusal.specs.declared.Refusal.{Refusal}
 use Rattle.sparse.specs.Vectors.{Vector}
 use Rattle.regions.specs.Regions.{Pair, part, Apart}
 use Rattle.aggregate_svecf32.specs.States.{fresh}
 use Rattle.aggregate_svecf32.specs.Calls.{Rows, Combines, Moves}
 use Rattle.aggregate_svecf32.specs.declared.Header.{Header}
-use Rattle.aggregate_svecf32.specs.declared.Told.{Told}
-use Rattle.aggregate_svecf32.specs.declared.Told.TheVariants.{Done, Refused}
 
 -- ---- lists and states
 
@@ -55,34 +54,34 @@ Different a b = a.lists ≡ b.lists → ⊥
 
 -- ---- what an answer does
 
--- "go on from each header handed back"
-abbrev pub handed : Told → Header
-handed (Done h turns) = h
-handed (Refused h n c) = h
+-- the turns, or why the call refused
+abbrev pub Told : Type 0
+Told = Result ℕ Refusal
 
 -- "with every refused step made good": a refused row is none of the rows taken in, and is to come again
 abbrev pub taken_in : Told → Vector → List Vector → List Vector
-taken_in (Done h turns) v rows = v ∷ rows
-taken_in (Refused h n c) v rows = rows
+taken_in (Ok turns) v rows = v ∷ rows
+taken_in (Err e) v rows = rows
 
 -- "combine each state away once, unfed after that": b is gone; if that was refused it stays, and is to be combined again
 abbrev pub remain : Told → State → List State → List State
-remain (Done h turns) b rest = rest
-remain (Refused h n c) b rest = b ∷ rest
+remain (Ok turns) b rest = rest
+remain (Err e) b rest = b ∷ rest
 
 -- what is asked only of a step that is done: a refused one changes nothing
 abbrev pub IfDone : Told → Type 0 → Type 0
-IfDone (Done h turns) A = A
-IfDone (Refused h n c) A = Unit {0}
+IfDone (Ok turns) A = A
+IfDone (Err e) A = Unit {0}
 
 -- where a state lies after it was to move from the pair p to the pair q
 abbrev pub lies_in : Told → ℕ → ℕ → ℕ
-lies_in (Done h turns) p q = q
-lies_in (Refused h n c) p q = p
+lies_in (Ok turns) p q = q
+lies_in (Err e) p q = p
 
 -- ---- runs
 
--- Run m ss rows: the steps have led to the lists m and the states ss, and the states took in these rows, the last one first
+-- Run m ss rows: the steps have led to the lists m and the states ss, and the states took in these rows, the last one first. "go on from each
+-- header handed back": h is the header that a call leaves
 pub data Run : Store → List State → List Vector → Type 0 where
   -- at first there are lists, and no state
   start : (m : Store) → Run m [] []
@@ -97,23 +96,23 @@ pub data Run : Store → List State → List Vector → Type 0 where
   -- "Deal each row to one of .. [the] states .. feed them in any order"
   feed : {m : Store} {ss : List State} {rows : List Vector} → Run m ss rows
       → (s : State) (rest : List State) → Pick s ss rest
-      → (v : Vector) (t : Told) (m' : Store) → Only s.lists m m'
-      → Rows s.header (m s.lists) v t (m' s.lists)
-      → Run m' (state s.lists (handed t) ∷ rest) (taken_in t v rows)
+      → (v : Vector) (t : Told) (h : Header) (m' : Store) → Only s.lists m m'
+      → Rows s.header (m s.lists) v t h (m' s.lists)
+      → Run m' (state s.lists h ∷ rest) (taken_in t v rows)
   -- "combine .. in any tree": b into a
   meet : {m : Store} {ss : List State} {rows : List Vector} → Run m ss rows
       → (a : State) (others : List State) → Pick a ss others
       → (b : State) (rest : List State) → Pick b others rest → Different a b
-      → (t : Told) (m' : Store) → Only a.lists m m'
-      → Combines a.header (m a.lists) b.header (m b.lists) t (m' a.lists)
-      → Run m' (state a.lists (handed t) ∷ remain t b rest) rows
+      → (t : Told) (h : Header) (m' : Store) → Only a.lists m m'
+      → Combines a.header (m a.lists) b.header (m b.lists) t h (m' a.lists)
+      → Run m' (state a.lists h ∷ remain t b rest) rows
   -- "move states that answer NEED", to regions that overlap no other
   carry : {m : Store} {ss : List State} {rows : List Vector} → Run m ss rows
       → (s : State) (rest : List State) → Pick s ss rest
-      → (more p at n : ℕ) (t : Told) → IfDone t (Each (Clear p at n) rest)
+      → (more p at n : ℕ) (t : Told) (h : Header) → IfDone t (Each (Clear p at n) rest)
       → (m' : Store) → Only p m m'
-      → Moves s.header (m s.lists) more (m p) at n t (m' p)
-      → Run m' (state (lies_in t s.lists p) (handed t) ∷ rest) rows
+      → Moves s.header (m s.lists) more (m p) at n t h (m' p)
+      → Run m' (state (lies_in t s.lists p) h ∷ rest) rows
 
 -- "until one is left"
 abbrev pub Finished : Store → State → List Vector → Type 0

@@ -1,4 +1,4 @@
--- The list of bits to print, entry by entry: how long it is, what stands at each place, and that it does not turn on the dims. Assumes
+-- The entry that a search finds. And the list of bits to print, entry by entry: how long it is, and what stands at each place. Assumes
 -- nothing.
 use Prim.Native.Nat.{ℕ, zero, suc, ◌<◌}
 use native.Mathlib.Omega.{arith}
@@ -6,9 +6,14 @@ use mathlib.Core.List.{List, [], ◌∷◌}
 use mathlib.Core.Path.{◌≡◌, refl, ap}
 use lib.ListN.{length, get_or}
 use lib.Ieee.{Float, nan}
+use Rattle.std.specs.Prelude.{Some, None, position}
+use lib.Dec.{eqb}
+use mathlib.Core.Bool.{cond}
+use borrow.Author.Tests.{lt-ltb, le-ltb}
+use Rattle.finding.proofs.Parts.{found, missing}
 use Rattle.merges.specs.declared.Op.{Op}
-use Rattle.entry_bits.specs.Operands.{Operand, operand}
-use Rattle.entry_bits.specs.Operands.{shown_at, shown}
+use Rattle.entry_bits.specs.Operands.{Operand}
+use Rattle.entry_bits.specs.Operands.{has, bits_at, shown_at, shown}
 
 module _ (op : Op) (a b : Operand) where
   pub shown_length : (is : List ℕ) (vs : List Float) → length is ≡ length vs → length (shown op a b is vs) ≡ length is
@@ -25,10 +30,15 @@ module _ (op : Op) (a b : Operand) where
   shown_get_d (i ∷ is) (v ∷ vs) zero l h = refl
   shown_get_d (i ∷ is) (v ∷ vs) (suc j) l h = shown_get_d is vs j (omega arith) (omega arith)
 
-module _ (op : Op) (d e : ℕ) (is bs js cs : List ℕ) where
-  pub shown_dims : (ks : List ℕ) (vs : List Float)
-      → shown op (operand d is bs) (operand e js cs) ks vs ≡ shown op (operand 0 is bs) (operand 0 js cs) ks vs
-  unfolding shown
-  shown_dims [] vs = refl
-  shown_dims (k ∷ ks) [] = refl
-  shown_dims (k ∷ ks) (v ∷ vs) = ap (λ (l : List ℕ). shown_at op (operand 0 is bs) (operand 0 js cs) k v ∷ l) (shown_dims ks vs)
+-- ---- the entry at an index
+
+module _ (a : Operand) (k : ℕ) where
+  -- none was found
+  pub no_entry : position (λ x. eqb x k) a.indexes ≡ None → cond (has a k) (Some (bits_at a k)) None ≡ None
+  no_entry e = rw (missing k a.indexes e, le-ltb (length a.indexes) (length a.indexes) (omega arith))
+
+  -- it was found at i
+  pub an_entry : {i : ℕ} → position (λ x. eqb x k) a.indexes ≡ Some i → cond (has a k) (Some (bits_at a k)) None ≡ Some (get_or a.bits i 0)
+  an_entry {i} e =
+      let at = found k a.indexes e in
+      rw (← at.0, lt-ltb i (length a.indexes) at.1)

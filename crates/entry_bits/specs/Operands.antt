@@ -1,11 +1,12 @@
 -- Document 01, "The program": a vector as it was read, its values, and the bits to print for an entry.
-use Rattle.std.specs.Prelude.{ℕ, ◌+◌, ◌-◌, Bool, cond, List, [], ◌∷◌, map, ◌≡◌, ltb, length, get_or, Float}
+use Rattle.std.specs.Prelude.{ℕ, ◌+◌, ◌-◌, Bool, cond, List, [], ◌∷◌, map, ltb, length, get_or, Float}
 use Rattle.std.specs.Float.{binary32}
 use Rattle.std.specs.Float.Ieee.{of_bits, to_bits}
 use Rattle.finding.specs.Finding.{index_of}
 use Rattle.sparse.specs.Vectors.{Vector, vector}
 use Rattle.merges.specs.declared.Op.{Op}
 use Rattle.merges.specs.declared.Op.TheVariants.{Add, Sub, Mul}
+use Rattle.entry_bits.specs.declared.operand.OperandBorrowed.{OperandBorrowed}
 
 -- a vector as it was read: the bits of its values, not the values
 pub record Operand : Type 0 where
@@ -16,10 +17,9 @@ pub record Operand : Type 0 where
 abbrev pub operand : ℕ → List ℕ → List ℕ → Operand
 operand d is bs = record { dims = d; indexes = is; bits = bs }
 
--- two operands have as many bits as indexes
-pub record Even (ia ba ib bb : List ℕ) : Type 0 where
-  pub left : length ia ≡ length ba
-  pub right : length ib ≡ length bb
+-- an operand as it is lent
+abbrev pub lent : OperandBorrowed → Operand
+lent a = operand a.dims a.indexes.now a.bits.now
 
 -- ---- values and their bits
 

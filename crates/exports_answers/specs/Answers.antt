@@ -1,6 +1,8 @@
 -- What an exported call gives: the number, the slots and the floats that stand for what an answer of the call below says.
-use Rattle.std.specs.Prelude.{List, [], ◌∷◌, ◌≡◌, Float}
+use Rattle.std.specs.Prelude.{ℕ, List, [], ◌∷◌, ◌≡◌, Float, Result, Ok, Err}
 use Rattle.refusal.specs.Answers.{Says, gives}
+use Rattle.refusal.specs.Numbers.{number_of, place_of}
+use Rattle.refusal.specs.declared.Refusal.{Refusal}
 
 -- what was given is what an answer tells that keeps the promise of the call below
 pub record Tells {A B : Type 0} (tells_of : A → B) (Keeps : A → Type 0) (given : B) : Type 0 where
@@ -17,3 +19,12 @@ filled old (x ∷ xs) = x ∷ xs
 -- refusal leaves them
 abbrev pub heard : List Float → Says → Says
 heard old s = gives s.number s.place s.values (filled old s.floats)
+
+-- the number of an answer, 0 for one that is no refusal, and its place
+abbrev pub number_told : {A : Type 0} → Result A Refusal → ℕ
+number_told (Ok x) = 0
+number_told (Err r) = number_of r
+
+abbrev pub place_told : {A : Type 0} → Result A Refusal → ℕ
+place_told (Ok x) = 0
+place_told (Err r) = place_of r

@@ -8,8 +8,8 @@ use mathlib.Core.Path.{◌≡◌, refl}
 use lib.Dec.{ltb, eqb}
 use lib.ListN.{get_or}
 use borrow.Author.Tests.{le-ltb, ltb-false}
-use Rattle.refusal.specs.Numbers.{STATE}
-use Rattle.refusal.specs.declared.Checked.TheVariants.{Refused}
+use Rattle.std.proofs.Common.{Err}
+use Rattle.refusal.specs.declared.Refusal.TheVariants.{State}
 use Rattle.places.specs.Below.{one}
 use Rattle.regions.specs.Regions.{Pair, inside}
 use Rattle.aggregate_svecf32.specs.States.{numbers_of, consistent, state_of}
@@ -50,6 +50,6 @@ module _ (ns : List ℕ) (bad : no_header (get_or ns 2 0) (get_or ns 3 0) ≡ tr
   never_consistent = rw bad
 
   -- and so a state with such numbers is refused with STATE, where its region lies inside the lists
-  pub refused_state : inside (get_or ns 0 0) (get_or ns 1 0) p ≡ true → state_of (header_of ns) p ≡ Refused STATE 0
+  pub refused_state : inside (get_or ns 0 0) (get_or ns 1 0) p ≡ true → state_of (header_of ns) p ≡ Err State
   unfolding state_of consistent
   refused_state i = rw (bad, i)

@@ -1,5 +1,6 @@
 // The calls of `aggregate_svecf32` under C names, as `exports_bits` has those of `bvect`. The header of a
 // state is a list of seven numbers; a refusal leaves it as it was.
+// That lists and vectors are parameters of their own here, a header seven numbers and an answer slots is the C interface.
 
 #![tactic(auto)]
 
@@ -13,7 +14,10 @@ ghost use Rattle.aggregate_svecf32.specs.Calls.{Rows, Combines, Moves, Sums, Ave
 ghost use Rattle.exports_answers.specs.Answers.{Tells};
 ghost use Rattle.exports_states.specs.States.{no_header, bad_header, header_of, told_heard};
 
-use aggregate_svecf32::{Header, Told};
+use aggregate_svecf32::Header;
+use refusal::Refusal;
+use regions::Lists;
+use sparse::SVectBorrowed;
 
 // A header of this region that is never consistent, for numbers that no header has.
 fn bad_header(start: u64, length: u64) -> Header
@@ -34,13 +38,10 @@ fn bad_header(start: u64, length: u64) -> Header
 fn is_no_header(begun: u64, dims: u64) -> bool
     ensures { result ≡ no_header begun dims }
 {
-    if 1 < begun {
-        return true;
-    }
-    4294967295 < dims
+    1 < begun || 4294967295 < dims
 }
 
-// The header that seven numbers are.
+// The header that seven numbers are. It and the next are no `From`: neither type is this crate's.
 fn header_of(h: &[u64; 7]) -> Header
     ensures { result ≡ header_of h.now }
 {
@@ -73,23 +74,21 @@ fn put_header(h: &mut [u64; 7], new: Header)
     ];
 }
 
-// An answer as numbers, with the header that it hands on.
-fn tell(r: Told, h: &mut [u64; 7], turns: &mut usize, place: &mut usize) -> u32
-    ensures { told_heard h.old r ≡ says result place.new (turns.new ∷ h.new) }
+// An answer as numbers, and the header as it is afterwards. A refusal leaves the numbers as they were.
+fn tell(
+    r: Result<usize, Refusal>,
+    new: Header,
+    h: &mut [u64; 7],
+    turns: &mut usize,
+    place: &mut usize,
+) -> u32
+    ensures { told_heard h.old (r, new) ≡ says result place.new (turns.new ∷ h.new) }
 {
-    *turns = 0;
-    *place = 0;
-    match r {
-        Told::Done(new, t) => {
-            put_header(h, new);
-            *turns = t;
-            refusal::DONE
-        }
-        Told::Refused(old, number, at) => {
-            *place = at;
-            number
-        }
+    if r.is_ok() {
+        put_header(h, new);
     }
+    *turns = r.unwrap_or(0);
+    exports_answers::tell(r, place)
 }
 
 // The header of a state without rows.
@@ -120,7 +119,11 @@ pub extern "C" fn oxl_aggregate_check(
         (Checks (state_of (header_of h.now) (pair ai.now av.now)))
         (says result place.new []) }
 {
-    exports_answers::tell_checked(header_of(h).check(ai, av), place)
+    let lists = Lists {
+        indexes: ai,
+        values: av,
+    };
+    exports_answers::tell_checked(header_of(h).check(lists), place)
 }
 
 // The numbers of `Header::row`, with the turns and the new header.
@@ -137,10 +140,17 @@ pub extern "C" fn oxl_aggregate_row(
 ) -> u32
     ensures { Tells (told_heard h.old)
         (λ t. Rows (header_of h.old) (pair ai.old av.old)
-        (vector dims bi.now bv.now) t (pair ai.new av.new))
+        (vector dims bi.now bv.now) t.0 t.1 (pair ai.new av.new))
         (says result place.new (turns.new ∷ h.new)) }
 {
-    tell(header_of(h).row(ai, av, dims, bi, bv), h, turns, place)
+    let row = SVectBorrowed {
+        dims,
+        indexes: bi,
+        values: bv,
+    };
+    let mut new = header_of(h);
+    let r = new.row(ai, av, row);
+    tell(r, new, h, turns, place)
 }
 
 // The numbers of `Header::combine`. The header of the second state stays as it is.
@@ -157,15 +167,16 @@ pub extern "C" fn oxl_aggregate_combine(
 ) -> u32
     ensures { Tells (told_heard h.old)
         (λ t. Combines (header_of h.old) (pair ai.old av.old) (header_of other.now)
-        (pair bi.now bv.now) t (pair ai.new av.new))
+        (pair bi.now bv.now) t.0 t.1 (pair ai.new av.new))
         (says result place.new (turns.new ∷ h.new)) }
 {
-    tell(
-        header_of(h).combine(ai, av, header_of(other), bi, bv),
-        h,
-        turns,
-        place,
-    )
+    let lists = Lists {
+        indexes: bi,
+        values: bv,
+    };
+    let mut new = header_of(h);
+    let r = new.combine(ai, av, header_of(other), lists);
+    tell(r, new, h, turns, place)
 }
 
 // The numbers of `Header::move_to`, with the header of the state where it is moved to.
@@ -184,15 +195,16 @@ pub extern "C" fn oxl_aggregate_move_to(
 ) -> u32
     ensures { Tells (told_heard h.old)
         (λ t. Moves (header_of h.old) (pair ai.now av.now) more
-        (pair ci.old cv.old) start length t (pair ci.new cv.new))
+        (pair ci.old cv.old) start length t.0 t.1 (pair ci.new cv.new))
         (says result place.new (turns.new ∷ h.new)) }
 {
-    tell(
-        header_of(h).move_to(ai, av, more, ci, cv, start, length),
-        h,
-        turns,
-        place,
-    )
+    let lists = Lists {
+        indexes: ai,
+        values: av,
+    };
+    let mut new = header_of(h);
+    let r = new.move_to(lists, more, ci, cv, start, length);
+    tell(r, new, h, turns, place)
 }
 
 // The numbers of `Header::sum`.
@@ -212,7 +224,11 @@ pub extern "C" fn oxl_aggregate_sum(
         oi.new ov.new)
         (says result place.new (dims.new ∷ len.new ∷ [])) }
 {
-    exports_answers::tell_written(header_of(h).sum(ai, av, oi, ov), dims, len, place)
+    let lists = Lists {
+        indexes: ai,
+        values: av,
+    };
+    exports_answers::tell_written(header_of(h).sum(lists, oi, ov), dims, len, place)
 }
 
 // The numbers of `Header::average`.
@@ -232,5 +248,9 @@ pub extern "C" fn oxl_aggregate_average(
         ov.old w oi.new ov.new)
         (says result place.new (dims.new ∷ len.new ∷ [])) }
 {
-    exports_answers::tell_written(header_of(h).average(ai, av, oi, ov), dims, len, place)
+    let lists = Lists {
+        indexes: ai,
+        values: av,
+    };
+    exports_answers::tell_written(header_of(h).average(lists, oi, ov), dims, len, place)
 }

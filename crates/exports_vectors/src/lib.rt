@@ -1,4 +1,5 @@
 // The calls of `svect` under C names, as `exports_bits` has those of `bvect`.
+// That a vector is three parameters here, a bound two numbers and an answer slots is the C interface.
 
 #![tactic(auto)]
 
@@ -15,6 +16,8 @@ ghost use Rattle.svect.specs.Calls.{Zeroes};
 ghost use Rattle.exports_answers.specs.Answers.{Tells, heard};
 ghost use Rattle.exports_answers.specs.Bounds.{start_bound, end_bound};
 
+use sparse::SVectBorrowed;
+
 // The numbers of `svect::new_checked`.
 #[unsafe(no_mangle)]
 pub extern "C" fn oxl_svect_new_checked(
@@ -27,7 +30,12 @@ pub extern "C" fn oxl_svect_new_checked(
         (Checks (checked_of (vector dims indexes.now values.now)))
         (says result place.new []) }
 {
-    exports_answers::tell_checked(svect::new_checked(dims, indexes, values), place)
+    let v = SVectBorrowed {
+        dims,
+        indexes,
+        values,
+    };
+    exports_answers::tell_checked(svect::new_checked(v), place)
 }
 
 // The numbers of `svect::zero`.
@@ -59,11 +67,17 @@ pub extern "C" fn oxl_svect_operator_dot(
         (Dots (vector dims_a ia.now va.now) (vector dims_b ib.now vb.now))
         (gives result place.new [] (value.new ∷ [])) }
 {
-    exports_answers::tell_distance(
-        svect::operator_dot(dims_a, ia, va, dims_b, ib, vb),
-        value,
-        place,
-    )
+    let a = SVectBorrowed {
+        dims: dims_a,
+        indexes: ia,
+        values: va,
+    };
+    let b = SVectBorrowed {
+        dims: dims_b,
+        indexes: ib,
+        values: vb,
+    };
+    exports_answers::tell_distance(svect::operator_dot(a, b), value, place)
 }
 
 // The numbers of `svect::operator_l2`.
@@ -82,11 +96,17 @@ pub extern "C" fn oxl_svect_operator_l2(
         (L2s (vector dims_a ia.now va.now) (vector dims_b ib.now vb.now))
         (gives result place.new [] (value.new ∷ [])) }
 {
-    exports_answers::tell_distance(
-        svect::operator_l2(dims_a, ia, va, dims_b, ib, vb),
-        value,
-        place,
-    )
+    let a = SVectBorrowed {
+        dims: dims_a,
+        indexes: ia,
+        values: va,
+    };
+    let b = SVectBorrowed {
+        dims: dims_b,
+        indexes: ib,
+        values: vb,
+    };
+    exports_answers::tell_distance(svect::operator_l2(a, b), value, place)
 }
 
 // The numbers of `svect::three_sums`, with the products and the squares of either side in `xy`, `x2`, `y2`.
@@ -108,13 +128,17 @@ pub extern "C" fn oxl_svect_three_sums(
         (SumsThree (vector dims_a ia.now va.now) (vector dims_b ib.now vb.now))
         (gives result place.new [] (xy.new ∷ x2.new ∷ y2.new ∷ [])) }
 {
-    exports_answers::tell_summed(
-        svect::three_sums(dims_a, ia, va, dims_b, ib, vb),
-        xy,
-        x2,
-        y2,
-        place,
-    )
+    let a = SVectBorrowed {
+        dims: dims_a,
+        indexes: ia,
+        values: va,
+    };
+    let b = SVectBorrowed {
+        dims: dims_b,
+        indexes: ib,
+        values: vb,
+    };
+    exports_answers::tell_summed(svect::three_sums(a, b), xy, x2, y2, place)
 }
 
 // The numbers of `svect::operator_add`, with the dims and the entries of what was written, and the turns.
@@ -138,13 +162,17 @@ pub extern "C" fn oxl_svect_operator_add(
         oi.old ov.old w oi.new ov.new)
         (says result place.new (dims.new ∷ len.new ∷ turns.new ∷ [])) }
 {
-    exports_answers::tell_merged(
-        svect::operator_add(dims_a, ia, va, dims_b, ib, vb, oi, ov),
-        dims,
-        len,
-        turns,
-        place,
-    )
+    let a = SVectBorrowed {
+        dims: dims_a,
+        indexes: ia,
+        values: va,
+    };
+    let b = SVectBorrowed {
+        dims: dims_b,
+        indexes: ib,
+        values: vb,
+    };
+    exports_answers::tell_merged(svect::operator_add(a, b, oi, ov), dims, len, turns, place)
 }
 
 // The numbers of `svect::operator_sub`.
@@ -168,13 +196,17 @@ pub extern "C" fn oxl_svect_operator_sub(
         oi.old ov.old w oi.new ov.new)
         (says result place.new (dims.new ∷ len.new ∷ turns.new ∷ [])) }
 {
-    exports_answers::tell_merged(
-        svect::operator_sub(dims_a, ia, va, dims_b, ib, vb, oi, ov),
-        dims,
-        len,
-        turns,
-        place,
-    )
+    let a = SVectBorrowed {
+        dims: dims_a,
+        indexes: ia,
+        values: va,
+    };
+    let b = SVectBorrowed {
+        dims: dims_b,
+        indexes: ib,
+        values: vb,
+    };
+    exports_answers::tell_merged(svect::operator_sub(a, b, oi, ov), dims, len, turns, place)
 }
 
 // The numbers of `svect::operator_mul`.
@@ -198,13 +230,17 @@ pub extern "C" fn oxl_svect_operator_mul(
         oi.old ov.old w oi.new ov.new)
         (says result place.new (dims.new ∷ len.new ∷ turns.new ∷ [])) }
 {
-    exports_answers::tell_merged(
-        svect::operator_mul(dims_a, ia, va, dims_b, ib, vb, oi, ov),
-        dims,
-        len,
-        turns,
-        place,
-    )
+    let a = SVectBorrowed {
+        dims: dims_a,
+        indexes: ia,
+        values: va,
+    };
+    let b = SVectBorrowed {
+        dims: dims_b,
+        indexes: ib,
+        values: vb,
+    };
+    exports_answers::tell_merged(svect::operator_mul(a, b, oi, ov), dims, len, turns, place)
 }
 
 // The numbers of `svect::subvector`. A bound is as for `oxl_bvect_subvector`.
@@ -228,10 +264,15 @@ pub extern "C" fn oxl_svect_subvector(
         (end_bound to_kind to) oi.old ov.old w oi.new ov.new)
         (says result place.new (dims_out.new ∷ len.new ∷ [])) }
 {
+    let v = SVectBorrowed {
+        dims,
+        indexes,
+        values,
+    };
     let start = exports_answers::start_bound(from_kind, from);
     let end = exports_answers::end_bound(to_kind, to);
     exports_answers::tell_written(
-        svect::subvector(dims, indexes, values, start, end, oi, ov),
+        svect::subvector(v, start, end, oi, ov),
         dims_out,
         len,
         place,
@@ -254,7 +295,17 @@ pub extern "C" fn oxl_svect_eq(
         (Equals (vector dims_a ia.now va.now) (vector dims_b ib.now vb.now))
         (says result place.new (yes.new ∷ [])) }
 {
-    exports_answers::tell_asked(svect::eq(dims_a, ia, va, dims_b, ib, vb), yes, place)
+    let a = SVectBorrowed {
+        dims: dims_a,
+        indexes: ia,
+        values: va,
+    };
+    let b = SVectBorrowed {
+        dims: dims_b,
+        indexes: ib,
+        values: vb,
+    };
+    exports_answers::tell_asked(svect::eq(a, b), yes, place)
 }
 
 // The numbers of `svect::partial_cmp`: `order` is 1 less, 2 equal, 3 greater, 4 unordered.
@@ -273,9 +324,15 @@ pub extern "C" fn oxl_svect_partial_cmp(
         (Compares (vector dims_a ia.now va.now) (vector dims_b ib.now vb.now))
         (says result place.new (order.new ∷ [])) }
 {
-    exports_answers::tell_order(
-        svect::partial_cmp(dims_a, ia, va, dims_b, ib, vb),
-        order,
-        place,
-    )
+    let a = SVectBorrowed {
+        dims: dims_a,
+        indexes: ia,
+        values: va,
+    };
+    let b = SVectBorrowed {
+        dims: dims_b,
+        indexes: ib,
+        values: vb,
+    };
+    exports_answers::tell_order(svect::partial_cmp(a, b), order, place)
 }

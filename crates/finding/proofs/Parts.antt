@@ -1,26 +1,31 @@
--- Where a byte is found in a part of a list, one place after the other. Assumes nothing.
-use Rattle.std.proofs.Common.{◌≡◌, ℕ, suc, ◌+◌, ◌≤◌, ◌<◌, List, length, get_or, take, ◌∙◌, arith, add-one, length-take-le, drop-cons}
-use Rattle.std.proofs.lemmas.List.{get_or-take}
-use lib.ListN.{drop_of_length-le}
-use borrow.Author.Tests.{eq-eqb, ne_eqb}
-use Rattle.finding.specs.Finding.{index_of, index_after, slice}
+-- What a search answers, by the first index at which the number stands. Assumes nothing.
+use Rattle.std.proofs.Common.{◌≡◌, ℕ, ◌+◌, ◌<◌, ◌≤◌, Bool, true, false, cond, not, eqb, List, [], ◌∷◌, Some, None, length, position, refl, arith}
+use Rattle.std.proofs.lemmas.List.Quantifiers.{position-Some}
+use Rattle.std.proofs.lemmas.List.Sums.{prefix_len-le-length}
+use Rattle.std.specs.List.{position_or_len}
+use Rattle.finding.specs.Finding.{index_of, index_after}
 
-module _ (b : ℕ) (s : List ℕ) (i j : ℕ) (most : j ≤ length s) where
-  -- the byte here
-  read : i < j → get_or (take j s) i 0 ≡ get_or s i 0
-  read h = get_or-take j s i 0 h
+-- the first index or the length, in the library's word
+pub index_first : (b : ℕ) (s : List ℕ) → position_or_len (λ x. eqb x b) s ≡ index_of b s
+unfolding index_of index_after
+index_first b [] = refl
+index_first b (x ∷ s) = go (eqb x b) (index_first b s)
+  where
+    go : (c : Bool) → position_or_len (λ x. eqb x b) s ≡ index_of b s
+        → cond (not c) (1 + position_or_len (λ x. eqb x b) s) 0 ≡ index_after c (index_of b s)
+    go true h = refl
+    go false h = omega (arith, h)
 
-  inside : i < j → i < length (take j s)
-  inside h = omega (arith, length-take-le j s most)
+pub index_most : (b : ℕ) (s : List ℕ) → index_of b s ≤ length s
+index_most b s = omega (arith, index_first b s, prefix_len-le-length (λ x. not (eqb x b)) s)
 
-  pub found_here : i < j → get_or s i 0 ≡ b → index_of b (slice i j s) ≡ 0
-  unfolding index_of index_after slice
-  found_here h e = rw (drop-cons (take j s) i 0 (inside h), eq-eqb (get_or (take j s) i 0) b (read h ∙ e))
+module _ (b : ℕ) (s : List ℕ) where
+  -- the number was found
+  pub found : {i : ℕ} → position (λ x. eqb x b) s ≡ Some i → (i ≡ index_of b s) × (i < length s)
+  found {i} e =
+      let at = position-Some (λ x. eqb x b) s i 0 e in
+      (grind (arith, e, index_first b s), at.0)
 
-  pub found_later : i < j → (get_or s i 0 ≡ b → ⊥) → index_of b (slice i j s) ≡ suc (index_of b (slice (i + 1) j s))
-  unfolding index_of index_after slice
-  found_later h e = rw (drop-cons (take j s) i 0 (inside h), ne_eqb (get_or (take j s) i 0) b (λ q. e (rw (read h) at q)), add-one)
-
-  pub found_none : j ≤ i → index_of b (slice i j s) ≡ 0
-  unfolding index_of index_after slice
-  found_none h = let long : length (take j s) ≤ i = omega (arith, length-take-le j s most) in rw (drop_of_length-le (take j s) long)
+  -- it was not
+  pub missing : position (λ x. eqb x b) s ≡ None → index_of b s ≡ length s
+  missing e = grind (arith, e, index_first b s, index_most b s)

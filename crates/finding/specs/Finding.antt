@@ -1,5 +1,5 @@
 -- Where a number is found in a list.
-use Rattle.std.specs.Prelude.{ℕ, suc, Bool, true, false, List, [], ◌∷◌, eqb, take, drop}
+use Rattle.std.specs.Prelude.{ℕ, suc, Bool, true, false, List, [], ◌∷◌, eqb}
 
 -- one place later, but where it is found here
 unfoldable pub index_after : Bool → ℕ → ℕ
@@ -10,7 +10,3 @@ index_after false k = suc k
 unfoldable pub index_of : ℕ → List ℕ → ℕ
 index_of b [] = 0
 index_of b (x ∷ s) = index_after (eqb x b) (index_of b s)
-
--- the part from the index i on and before j
-unfoldable pub slice : ℕ → ℕ → List ℕ → List ℕ
-slice i j s = drop i (take j s)

@@ -1,23 +1,12 @@
-// Where a byte stands first in a part of a list of bytes.
+// Where a value stands first in a list.
 
 #![tactic(auto)]
 
-ghost use Rattle.std.specs.Prelude.{◌≡◌, ◌+◌, ◌≤◌, length};
-ghost use Rattle.finding.specs.Finding.{index_of, slice};
+ghost use Rattle.std.specs.Prelude.{◌≡◌, position};
 
-// The first place from `from` on and before `to` at which the byte `c` stands, or `to`. For the
-// crates above, not for users.
-pub fn find(s: &[u8], from: usize, to: usize, c: u8) -> usize
-    requires { (from ≤ to) × (to ≤ length s.now) }
-    ensures place { result ≡ from + index_of c (slice from to s.now) }
-    ensures within { result ≤ to }
+// The first place at which `x` stands, if it stands anywhere. For the crates above, not for users.
+pub fn find<T: Copy + Eq>(s: &[T], x: T) -> Option<usize>
+    ensures { result ≡ position (λ y. T.eq y x) s.now }
 {
-    let mut at = from;
-    while at < to {
-        if s[at] == c {
-            return at;
-        }
-        at += 1;
-    }
-    to
+    s.iter().position(|y| *y == x)
 }

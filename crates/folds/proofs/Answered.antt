@@ -1,38 +1,48 @@
 -- What three sums answer, and that what they say decides them. Assumes nothing.
-use mathlib.Core.List.{List, [], ◌∷◌}
-use mathlib.Core.Path.{◌≡◌, refl}
-use lib.Ieee.{Float}
-use lib.ListN.{get_or}
-use Rattle.refusal.specs.Answers.{Says, tells, Answers}
-use Rattle.refusal.specs.declared.Checked.{Checked}
-use Rattle.refusal.specs.declared.Checked.TheVariants.{Valid, Refused}
-use Rattle.refusal.proofs.Told.{answered}
-use Rattle.refusal.proofs.Decides.{decided}
-use Rattle.folds.specs.Calls.{floats_of, summed_says, summed_of}
-use Rattle.folds.specs.declared.Summed.{Summed}
-use Rattle.folds.specs.declared.Summed.TheVariants.{Sums, Refused as NotSummed}
+use Rattle.std.proofs.Common.{◌≡◌, [], Float, Result, Ok, Err, get_or, refl, sym, ap, ◌∙◌}
+use Rattle.std.specs.Float.{nan}
+use Rattle.refusal.specs.Answers.{Checked, Valid, Says, tells, answer, Answers, Checks, Measures}
+use Rattle.refusal.specs.declared.Refusal.{Refusal}
+use Rattle.refusal.proofs.Chains.{differ_valid}
+use Rattle.refusal.proofs.Told.{answered, checked_told, distance_answer}
+use Rattle.refusal.proofs.Decides.{checked_decided}
+use Rattle.sparse.specs.Vectors.{Vector}
+use Rattle.sparse.specs.Calls.{each_of, pair_of}
+use Rattle.sparse.proofs.Checks.{each_sound}
+use Rattle.sums.specs.Loops.{Ready}
+use Rattle.folds.specs.Calls.{floats_of, summed_says}
 use Rattle.sums.specs.declared.Three.{Three}
 
-summed_fair : (t : Three) (due : Checked) → summed_says (summed_of t due) ≡ tells [] (floats_of t) due
-summed_fair t Valid = refl
-summed_fair t (Refused n p) = refl
+summed_fair : (t : Three) (due : Checked) → summed_says (answer t due) ≡ tells [] (floats_of t) due
+summed_fair t (Ok tt) = refl
+summed_fair t (Err r) = refl
 
-pub summed_answer : (t : Three) {due : Checked} {r : Summed} → r ≡ summed_of t due → Answers summed_says (tells [] (floats_of t)) (summed_of t) due r
-summed_answer t e = answered summed_says (tells [] (floats_of t)) (summed_of t) (summed_fair t) e
+pub summed_answer : (t : Three) {due : Checked} {r : Result Three Refusal} → r ≡ answer t due → Answers summed_says [] (floats_of t) t due r
+summed_answer t e = answered summed_says [] (floats_of t) t (summed_fair t) e
 
 -- ---- what three sums say decides them, as for a distance
 
-summed_back : Says → Summed
-summed_back s = go s.floats
-  where
-    go : List Float → Summed
-    go [] = NotSummed s.number s.place
-    go (x ∷ xs) = Sums (record { xy = x; x2 = get_or xs 0 x; y2 = get_or xs 1 x })
+abbrev three : Says → Result Three Refusal
+three s = Ok (record { xy = get_or s.floats 0 nan; x2 = get_or s.floats 1 nan; y2 = get_or s.floats 2 nan })
 
-summed_back_lem : (r : Summed) → summed_back (summed_says r) ≡ r
-unfolding summed_back
-summed_back_lem (Sums t) = refl
-summed_back_lem (NotSummed n p) = refl
+pub summed_decided : (r s : Result Three Refusal) → summed_says r ≡ summed_says s → r ≡ s
+summed_decided (Ok t) (Ok u) e = ap three e
+summed_decided (Ok t) (Err r) e = let f : floats_of t ≡ [] = ap (λ (s : Says). s.floats) e in absurd cc
+summed_decided (Err r) (Ok t) e = let f : [] ≡ floats_of t = ap (λ (s : Says). s.floats) e in absurd cc
+summed_decided (Err r) (Err s) e =
+    let f : ◌≡◌ {A = Checked} (Err r) (Err s) = checked_decided (Err r) (Err s) e in
+    let same : r ≡ s = cc in ap Err same
 
-pub summed_decided : (r s : Summed) → summed_says r ≡ summed_says s → r ≡ s
-summed_decided r s = decided summed_says summed_back (summed_back_lem r) (summed_back_lem s)
+-- ---- two vectors that passed
+
+valid : {due r : Checked} → Checks due r → r ≡ Valid → due ≡ Valid
+valid c e = sym (checked_told c) ∙ e
+
+pub passed : {a b : Vector} {r : Checked} → Checks (pair_of a b) r → r ≡ Valid → Ready a b
+passed {a} {b} c e =
+    let v = differ_valid (each_of a b) a.dims b.dims (valid c e) in
+    let s = each_sound a b v.0 in
+    record { left = s.0; right = s.1; even = v.1 }
+
+pub measured : {due r : Checked} → Checks due r → r ≡ Valid → {x y : Float} → y ≡ x → Measures x due (Ok y)
+measured c e {x} same = distance_answer x (ap Ok same ∙ ap (answer x) (sym (valid c e)))

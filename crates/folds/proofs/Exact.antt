@@ -15,10 +15,8 @@ use Rattle.sparse.specs.Numbers.{Whole, number_at}
 use Rattle.sparse.specs.declared.Cell.{Cell}
 use Rattle.sparse.specs.declared.Cell.TheVariants.{Empty, Full}
 use Rattle.sparse.proofs.Numbers.{Passing, passing_at}
-use Rattle.sums.specs.Sums.{dense, step_of, sum_of, dot_of}
+use Rattle.sums.specs.Sums.{Kind, Product, Difference, dense, step_of, sum_of, dot_of}
 use Rattle.folds.specs.Exact.{term_of, term_at, total_below, weight_below}
-use Rattle.sums.specs.declared.Kind.{Kind}
-use Rattle.sums.specs.declared.Kind.TheVariants.{Product, Difference}
 
 -- ---- what stands at a place of a vector of whole numbers
 

@@ -3,8 +3,7 @@
 use Rattle.std.specs.Prelude.{ℕ, zero, suc, ◌+◌, ℤ, pos, nat_abs, ◌+ℤ◌, ◌-ℤ◌, ◌*ℤ◌}
 use Rattle.sparse.specs.Vectors.{Vector, at}
 use Rattle.sparse.specs.Numbers.{number_at}
-use Rattle.sums.specs.declared.Kind.{Kind}
-use Rattle.sums.specs.declared.Kind.TheVariants.{Product, Difference}
+use Rattle.sums.specs.Sums.{Kind, Product, Difference}
 
 -- what a place adds: a product, or a squared difference
 abbrev pub term_of : Kind → ℤ → ℤ → ℤ

@@ -1,23 +1,20 @@
 -- What numbers that pass a header's tests are, and that such numbers pass them. Assumes nothing.
-use Prim.Native.Nat.{ℕ, ◌+◌, ◌-◌, ◌≤◌}
-use native.Mathlib.Decide.{dec_le}
-use native.Mathlib.Nat.{add-sub_cancel_left}
-use native.Mathlib.Omega.{arith}
+use Prim.Native.Nat.{ℕ, ◌≤◌}
 use mathlib.Core.Bool.{Bool, true, false, not, ◌&&◌, true≢false}
-use mathlib.Core.Path.{◌≡◌, refl, sym}
+use mathlib.Core.Path.{◌≡◌, refl, sym, ◌∙◌}
 use lib.Dec.{leb, ltb, eqb}
-use borrow.Author.Tests.{eqb-true, ltb-true, leb-true, lt-ltb, le-ltb, le-leb}
+use borrow.Author.Tests.{eqb-true, ltb-true, leb-true, lt-ltb, le-leb}
 use Rattle.places.proofs.Below.{and_true}
-use Rattle.refusal.specs.declared.Checked.{Checked}
-use Rattle.refusal.specs.declared.Checked.TheVariants.{Valid, Refused}
+use Rattle.refusal.specs.Answers.{Checked, Valid}
+use Rattle.std.specs.Prelude.{Ok, Err}
+use Rattle.std.specs.Result.{is_ok}
 use Rattle.refusal.proofs.Dims.{in_range}
 use Rattle.sparse.specs.Calls.{bad_dims, checked_of}
-use Rattle.sparse.specs.Vectors.{Vector, vector}
+use Rattle.sparse.specs.Vectors.{Vector}
 use Rattle.sparse.specs.Sound.{Sound}
 use Rattle.sparse.proofs.Checks.{sound, valid}
 use Rattle.regions.specs.Capacity.{is_capacity}
-use Rattle.regions.specs.Regions.{Pair, part}
-use Rattle.headers.specs.Headers.{most_rows, passes, fair, zeros, too_many}
+use Rattle.headers.specs.Headers.{most_rows, passes, fair, zeros}
 
 -- the numbers of a header that has begun, and the vector of its entries
 pub record Fair (length len c count : ℕ) (v : Vector) : Type 0 where
@@ -36,27 +33,13 @@ pub record Bare (d l c n : ℕ) : Type 0 where
   pub count : n ≡ 0
 
 passed : (c : Checked) → passes c ≡ true → c ≡ Valid
-passed Valid e = refl
-passed (Refused n p) e = absurd (true≢false (sym e))
+passed (Ok tt) e = refl
+passed (Err r) e = absurd (true≢false (sym e))
 
 -- a test that cannot hold fails
 failed : (b : Bool) → (b ≡ true → ⊥) → b ≡ false
 failed true wrong = absurd (wrong refl)
 failed false wrong = refl
-
--- what is left to count is less than what comes, or the sum does not pass the limit
-pub left_fewer : (n m : ℕ) → n ≤ most_rows → ltb (most_rows - n) m ≡ too_many n m
-left_fewer n m h =
-    elim (dec_le m (most_rows - n)) [
-      | yes l ↦ rw (le-ltb (most_rows - n) m l, le-ltb most_rows (n + m) (omega arith))
-      | no l ↦ rw (lt-ltb (most_rows - n) m (omega arith), lt-ltb most_rows (n + m) (omega arith))
-    ]
-
--- the n entries from `start` on, lent as those from there up to their end
-pub entries_cut : (d start n : ℕ) (p : Pair)
-    → let k = (start + n) - start in
-    vector d (part start k p.indexes) (part start k p.values) ≡ vector d (part start n p.indexes) (part start n p.values)
-entries_cut d start n p = rw (add-sub_cancel_left start n)
 
 module _ (d len capacity count : ℕ) where
   pub bare_facts : zeros d len capacity count ≡ true → Bare d len capacity count
@@ -115,3 +98,10 @@ module _ (length len capacity count : ℕ) (v : Vector) where
 
   pub not_fair : (Fair length len capacity count v → ⊥) → fair length len capacity count v ≡ false
   not_fair wrong = failed (fair length len capacity count v) (λ e. wrong (fair_facts e))
+
+  -- where the numbers pass, the entries decide
+  pub entries_fair : is_capacity v.dims capacity ≡ true → len ≤ capacity → capacity ≤ length → 1 ≤ count → count ≤ most_rows
+      → (r : Checked) → r ≡ checked_of v → is_ok r ≡ fair length len capacity count v
+  entries_fair c l f n m (Ok tt) e =
+      sym (facts_fair (record { capacity = c; room = l; fits = f; some = n; most = m; sound = sound v (sym e) }))
+  entries_fair c l f n m (Err r) e = sym (not_fair (λ g. let z : Err r ≡ Valid = e ∙ valid v g.sound in absurd cc))

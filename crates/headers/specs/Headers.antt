@@ -1,14 +1,13 @@
 -- Document 01, "Aggregate states": when the numbers of a header are consistent, and whether they have room.
-use Rattle.std.specs.Prelude.{ℕ, ◌+◌, ◌-◌, Bool, true, false, not, ◌&&◌, ◌||◌, leb, ltb, eqb}
-use Rattle.refusal.specs.declared.Checked.{Checked}
-use Rattle.refusal.specs.declared.Checked.TheVariants.{Valid, Refused}
+use Rattle.std.specs.Prelude.{ℕ, ◌+◌, ◌-◌, Bool, true, false, not, ◌&&◌, ◌||◌, leb, ltb, eqb, Ok, Err}
+use Rattle.refusal.specs.Answers.{Checked}
 use Rattle.sparse.specs.Vectors.{Vector}
 use Rattle.sparse.specs.Calls.{bad_dims, checked_of}
 use Rattle.regions.specs.Capacity.{is_capacity}
 
 abbrev pub passes : Checked → Bool
-passes Valid = true
-passes (Refused n p) = false
+passes (Ok u) = true
+passes (Err r) = false
 
 -- the most rows that a state can count: 2 ^ 64 - 1. Document 01 had 16,777,216; request #109: "Counts run to the u64 end"
 abbrev pub most_rows : ℕ

@@ -16,7 +16,7 @@ use Rattle.sparse.proofs.Checks.{size_most}
 use Rattle.sparse.proofs.Entries.{as_many}
 use Rattle.walks.specs.Walk.{Standing, Turned}
 use Rattle.walks.proofs.Stores.{written_lengths}
-use Rattle.walks.proofs.Walk.{Going}
+use Rattle.walks.proofs.Walks.{Going}
 use Rattle.merges.specs.Algebra.{joins}
 use Rattle.merges.specs.declared.Op.TheVariants.{Add}
 use Rattle.merges.proofs.Made.{join_at, Made, Merging, merging_more, merging_end, merging_fits}
@@ -24,7 +24,7 @@ use Rattle.regions.specs.Regions.{part}
 use Rattle.regions.proofs.Stands.{past_front, stands_front}
 use Rattle.copies.specs.Copies.{Clear}
 use Rattle.strides.specs.Strides.{Steady, Stepped, step, Chain}
-use Rattle.strides.specs.declared.Step.{Step}
+use Rattle.copies.specs.declared.Step.{Step}
 use Rattle.strides.proofs.Chains.{chain_keeps}
 use Rattle.in_place.specs.Turns.{first_index, row_turns}
 use Rattle.in_place.specs.Loops.{around, Raised, Grown}
@@ -105,7 +105,7 @@ module _ {d : ℕ} {b : Vector} {low gap cap : ℕ} {si : List ℕ} {sv : List F
         written_lengths g.holds.wrote (omega (arith, clear, reached, r.roomy.long)) (omega (arith, clear, reached, r.roomy.long'))
 
     -- what is read next is what is left of the entries
-    left {ℓ} : {A : Type ℓ} (old new xs : List A) → cap ≤ length old → new ≡ xs ++ drop n old → length xs ≡ n
+    left : {A : Type 0} (old new xs : List A) → cap ≤ length old → new ≡ xs ++ drop n old → length xs ≡ n
         → part at (cap - at) new ≡ drop c.p (around low gap cap old)
     left old new xs long e count =
         ap (take (cap - at)) (ap (drop at) e ∙ past_front xs old n at count clear)

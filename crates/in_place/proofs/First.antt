@@ -21,7 +21,7 @@ use Rattle.sparse.proofs.Entries.{entries_same}
 use Rattle.sparse.proofs.Look.{look_gap, split_start, split_on}
 use Rattle.sparse.proofs.Slices.{front, rebuilt}
 use Rattle.walks.proofs.Stores.{Written}
-use Rattle.walks.proofs.Walk.{kept_up}
+use Rattle.walks.proofs.Walks.{kept_up}
 use Rattle.steps.specs.Places.{added}
 use Rattle.merges.specs.declared.Op.TheVariants.{Add}
 use Rattle.merges.proofs.Made.{join_at}

@@ -1,14 +1,15 @@
 -- What is left of a state's entries where a merge has come: the part of the list that it reads next, and what a turn over that part says of
 -- all of the entries. Assumes nothing.
-use Prim.Native.Nat.{ℕ, zero, suc, ◌+◌, ◌-◌, ◌≤◌}
+use Prim.Native.Nat.{ℕ, ◌+◌, ◌-◌, ◌≤◌}
 use native.Mathlib.Nat.{add-zero}
 use native.Mathlib.Omega.{arith}
-use mathlib.Core.List.{List, [], ◌∷◌}
+use mathlib.Core.List.{List}
 use mathlib.Core.Logic.{inl, inr, ⊎_elim}
 use mathlib.Core.Path.{◌≡◌, sym, ap, ◌∙◌}
 use lib.ListN.{length, get_or, take, drop, length-drop}
-use lib.Seq.{get_or-drop, drop-drop, drop-append-add, length-take-le, take-nil}
+use lib.Seq.{get_or-drop, drop-drop, drop-append-add, length-take-le}
 use lib.Ieee.{Float, nan}
+use Rattle.std.proofs.lemmas.List.{drop-take}
 use Rattle.sparse.specs.declared.Cell.{Cell}
 use Rattle.sparse.specs.declared.Cell.TheVariants.{Full}
 use Rattle.walks.specs.Walk.{turn, Taken, Turned}
@@ -35,13 +36,7 @@ module _ (is : List ℕ) (vs : List Float) (p : ℕ) where
 
 -- ---- the part that is read next
 
--- a later part of a list
-drop_take {ℓ} : {A : Type ℓ} (p n : ℕ) (l : List A) → drop p (take (p + n) l) ≡ take n (drop p l)
-drop_take zero n l = let e : 0 + n ≡ n = omega arith in rw e
-drop_take (suc p) n [] = let e : suc p + n ≡ suc (p + n) = omega arith in rw e (sym (take-nil n))
-drop_take (suc p) n (x ∷ l) = let e : suc p + n ≡ suc (p + n) = omega arith in rw e (drop_take p n l)
-
-module _ {ℓ} {A : Type ℓ} (l : List A) (low gap cap : ℕ) (long : cap ≤ length l) where
+module _ {A : Type 0} (l : List A) (low gap cap : ℕ) (long : cap ≤ length l) where
   -- from the entry p on, the entries are those from gap + p on
   pub around_from : (p : ℕ) → low ≤ p → gap + p ≤ cap → drop p (around low gap cap l) ≡ part (gap + p) (cap - (gap + p)) l
   around_from p h k =
@@ -52,5 +47,5 @@ module _ {ℓ} {A : Type ℓ} (l : List A) (low gap cap : ℕ) (long : cap ≤ l
       ap (λ (i : ℕ). drop i (around low gap cap l)) (s ∙ ap (λ (i : ℕ). i + (p - low)) (sym e))
       ∙ drop-append-add (take low l) (part (gap + low) (cap - (gap + low)) l) (p - low)
       ∙ ap (λ (i : ℕ). drop (p - low) (take i (drop (gap + low) l))) n
-      ∙ drop_take (p - low) (cap - (gap + p)) (drop (gap + low) l)
+      ∙ drop-take (p - low) (cap - (gap + p)) (drop (gap + low) l)
       ∙ ap (take (cap - (gap + p))) (drop-drop (p - low) (gap + low) l ∙ ap (λ (i : ℕ). drop i l) d)

@@ -13,8 +13,8 @@ use Rattle.merges.specs.declared.Both.{Both}
 use Rattle.merges.specs.declared.Op.TheVariants.{Add}
 use Rattle.regions.specs.Regions.{Stands}
 use Rattle.in_place.specs.Turns.{first_index, row_turns}
-use Rattle.in_place.specs.Loops.{Movable, Shifted, Roomy, Raised, Grown}
-use Rattle.in_place.proofs.Moved.{shift_length, shift_around, shift_after}
+use Rattle.in_place.specs.Loops.{Roomy, Raised, Grown}
+use Rattle.in_place.proofs.Moved.{moved, moved_length, moved_around, moved_after}
 use Rattle.in_place.proofs.Climbs.{lying}
 
 -- the state's vector, in the first len entries of its lists
@@ -29,33 +29,33 @@ stands_moved {room = room} long after s =
     record { long = s.long ∙ long; before = refl; here = s.here; after = s.after ∙ rw z after }
 
 module _ {d len cap : ℕ} {b : Vector} {si : List ℕ} {sv : List Float} (le : len ≤ cap) (r : Roomy (state d len si sv) b cap si sv) where
-  pub movable : {low : ℕ} → Split (take len si) low (first_index b) → Movable si sv low len (cap - len)
-  movable cut =
-      record {
-        order = omega (arith, cut.within, length-take-le len si (omega (arith, r.long)));
-        room = omega (arith, r.long);
-        room' = omega (arith, r.long');
-      }
-
   module _ {low : ℕ} (cut : Split (take len si) low (first_index b)) {mi : List ℕ} {mv : List Float}
-      (s : Shifted si sv low len (cap - len) mi mv) where
+      (is : mi ≡ moved si (cap - len) len low) (vs : mv ≡ moved sv (cap - len) len low) where
+    under : low ≤ len
+    under = omega (arith, cut.within, length-take-le len si (omega (arith, r.long)))
+
+    fits : cap - len + len ≤ length si
+    fits = omega (arith, r.long)
+
+    fits' : cap - len + len ≤ length sv
+    fits' = omega (arith, r.long')
+
     far : cap - len + len ≡ cap
     far = omega arith
 
     -- the entries are the same, elsewhere
     same_vector : lying d low (cap - len) cap mi mv ≡ state d len si sv
     same_vector =
-        let m = movable cut in
-        rw (s.indexes, s.values)
+        rw (is, vs)
         (ap₂ (vector d)
-        (shift_around si (cap - len) len m.room low m.order cap far)
-        (shift_around sv (cap - len) len m.room' low m.order cap far))
+        (moved_around si (cap - len) len fits low under cap far)
+        (moved_around sv (cap - len) len fits' low under cap far))
 
     long_indexes : length mi ≡ length si
-    long_indexes = let m = movable cut in rw s.indexes (shift_length si (cap - len) len m.room low m.order)
+    long_indexes = rw is (moved_length si (cap - len) len fits low under)
 
     long_values : length mv ≡ length sv
-    long_values = let m = movable cut in rw s.values (shift_length sv (cap - len) len m.room' low m.order)
+    long_values = rw vs (moved_length sv (cap - len) len fits' low under)
 
     pub raised : Raised (lying d low (cap - len) cap mi mv) b low (cap - len) cap mi mv
     raised =
@@ -78,12 +78,11 @@ module _ {d len cap : ℕ} {b : Vector} {si : List ℕ} {sv : List Float} (le : 
         → (let a = lying d low (cap - len) cap mi mv in Grown (joins Add a b) (row_turns a b) cap mi mv t si' sv')
         → (let a = state d len si sv in Grown (joins Add a b) (row_turns a b) cap si sv t si' sv')
     grown {t} {si'} {sv'} g =
-        let m = movable cut in
         let h = subst (λ (a : Vector). Grown (joins Add a b) (row_turns a b) cap mi mv t si' sv') same_vector g in
         record {
           count = h.count;
           turned = h.turned;
           fits = h.fits;
-          indexes = stands_moved long_indexes (rw s.indexes (shift_after si (cap - len) len m.room low m.order cap far)) h.indexes;
-          values = stands_moved long_values (rw s.values (shift_after sv (cap - len) len m.room' low m.order cap far)) h.values;
+          indexes = stands_moved long_indexes (rw is (moved_after si (cap - len) len fits low under cap far)) h.indexes;
+          values = stands_moved long_values (rw vs (moved_after sv (cap - len) len fits' low under cap far)) h.values;
         }

@@ -1,6 +1,6 @@
 -- What the loops of a merge in place are handed, and what they promise to each other and to the calls above them. A user's promises do not
 -- cite these.
-use Rattle.std.specs.Prelude.{ℕ, ◌+◌, ◌-◌, ◌≤◌, List, ◌++◌, ◌≡◌, length, take, drop, Float}
+use Rattle.std.specs.Prelude.{ℕ, ◌+◌, ◌-◌, ◌≤◌, List, ◌++◌, ◌≡◌, length, take, Float}
 use Rattle.sparse.specs.Vectors.{Vector, size}
 use Rattle.sparse.specs.Sound.{Split, Sound}
 use Rattle.merges.specs.Algebra.{room_for}
@@ -8,22 +8,6 @@ use Rattle.merges.specs.declared.Both.{Both}
 use Rattle.merges.specs.declared.Op.TheVariants.{Add}
 use Rattle.regions.specs.Regions.{part, Stands}
 use Rattle.in_place.specs.Turns.{first_index}
-
--- ---- the move to the far end
-
--- the entries from i up to len of a list are moved up by `gap`, and nothing else is
-abbrev pub shifted {ℓ} : {A : Type ℓ} → List A → ℕ → ℕ → ℕ → List A
-shifted l gap len i = take (gap + i) l ++ (drop i (take len l) ++ drop (gap + len) l)
-
--- the lists have room for them
-pub record Movable (si : List ℕ) (sv : List Float) (low len gap : ℕ) : Type 0 where
-  pub order : low ≤ len
-  pub room : gap + len ≤ length si
-  pub room' : gap + len ≤ length sv
-
-pub record Shifted (si : List ℕ) (sv : List Float) (low len gap : ℕ) (si' : List ℕ) (sv' : List Float) : Type 0 where
-  pub indexes : si' ≡ shifted si gap len low
-  pub values : sv' ≡ shifted sv gap len low
 
 -- ---- the merge
 

@@ -1,12 +1,12 @@
--- Where a byte, or an index, is found in a list: in one that is cut short, in two that are joined, and from a place on. Assumes nothing.
-use Prim.Native.Nat.{ℕ, zero, suc, ◌+◌, ◌-◌, ◌≤◌, ◌<◌, min}
+-- Where a byte, or an index, is found in a list: in one that is cut short, and in two that are joined. Assumes nothing.
+use Prim.Native.Nat.{ℕ, zero, suc, ◌+◌, ◌-◌, ◌<◌, min}
 use mathlib.Core.Bool.{Bool, true, false}
 use mathlib.Core.List.{List, [], ◌∷◌, ◌++◌}
 use mathlib.Core.Path.{◌≡◌, refl, sym, ap}
 use native.Mathlib.Omega.{arith}
 use lib.Dec.{eqb}
-use lib.ListN.{length, get_or, take, drop, length-append, drop_of_length-le}
-use lib.Seq.{take-nil, take-append_seam, drop-append-add, drop-cons}
+use lib.ListN.{length, take, drop, length-append}
+use lib.Seq.{take-nil, take-append_seam, drop-append-add}
 use borrow.Author.Tests.{eq-eqb, ne_eqb, eqb-true}
 use Rattle.finding.specs.Finding.{index_of, index_after}
 
@@ -64,22 +64,6 @@ module _ (b : ℕ) (s t : List ℕ) (lacks : Lacks b s) where
   after_next =
       let n : suc (length s) ≡ length s + 1 = omega arith in
       rw (index_next, n) (drop-append-add s (b ∷ t) 1)
-
--- ---- place after place
-
--- from the place i on, the byte b is found there, or later, or not at all
-module _ (b : ℕ) (s : List ℕ) (i : ℕ) where
-  pub found_here : i < length s → get_or s i 0 ≡ b → index_of b (drop i s) ≡ 0
-  unfolding index_of index_after
-  found_here h e = rw (drop-cons s i 0 h, eq-eqb (get_or s i 0) b e)
-
-  pub found_later : i < length s → (get_or s i 0 ≡ b → ⊥) → index_of b (drop i s) ≡ suc (index_of b (drop (suc i) s))
-  unfolding index_of index_after
-  found_later h e = rw (drop-cons s i 0 h, ne_eqb (get_or s i 0) b e)
-
-  pub found_none : length s ≤ i → index_of b (drop i s) ≡ 0
-  unfolding index_of
-  found_none h = rw (drop_of_length-le s h)
 
 -- ---- found
 

@@ -1,6 +1,5 @@
 -- Laws of numbers, texts and words, for the proofs of `lines`.
 pub mod Numbers
-pub mod Texts
 pub mod Words
 pub mod Progress
 pub mod Finding

@@ -3,188 +3,130 @@
 
 #![tactic(auto)]
 
-ghost use Rattle.std.specs.Prelude.{◌≡◌, ◌≤◌, length, drop};
+ghost use Rattle.std.specs.Prelude.{◌≡◌, ◌≤◌, unwrap_or};
 ghost use Rattle.lines.specs.Numerals.{digit_of, numeral_of, decimal_of, bits_of};
-ghost use Rattle.lines.specs.Lines.{same, entry_of, line_of, named_of, Reads};
-ghost use Rattle.lines.specs.Loops.{words_after, listed};
+ghost use Rattle.lines.specs.Lines.{entry_of, line_of, named_of, Reads};
 
 use merges::Op;
 
-// A number that a text stands for.
-#[derive(Drop)]
-pub enum Numeral {
-    Of(u32),
-    Bad,
-}
+// The largest number of 32 bits.
+const LARGEST: u64 = 4294967295;
+
+// The most entries of a vector.
+pub const MOST: usize = 128;
 
 // An index and the bits of a value.
-#[derive(Drop)]
-pub enum Item {
-    Of(u32, u32),
-    Bad,
+#[derive(Clone, Copy)]
+pub struct Item {
+    pub index: u32,
+    pub bits: u32,
 }
 
-// The operation that a line names.
+// Room for the entries of a vector: the lists have a fixed size, since the program has no heap.
 #[derive(Drop)]
-pub enum Named {
-    Is(Op),
-    Bad,
+pub struct Room {
+    pub indexes: [u32; MOST],
+    pub bits: [u32; MOST],
 }
 
-// The dims of a vector, and how many entries were read.
-#[derive(Drop)]
-pub enum Got {
-    Vector(u32, usize),
-    Bad,
+// The dims of a vector that was read, and how many entries.
+#[derive(Clone, Copy)]
+pub struct Shape {
+    pub dims: u32,
+    pub len: usize,
 }
 
-// The digit that a byte is, or 16.
-fn digit(c: u8) -> u64
-    ensures { result ≡ digit_of c }
+// The digit that a byte is.
+fn digit(c: u8) -> Option<u64>
+    ensures { unwrap_or result 16 ≡ digit_of c }
 {
-    if b'0' <= c && c <= b'9' {
-        return (c - b'0') as u64;
+    match c {
+        b'0'..=b'9' => Some((c - b'0') as u64),
+        b'a'..=b'f' => Some((c - b'a' + 10) as u64),
+        _ => None,
     }
-    if b'a' <= c && c <= b'f' {
-        return (c - b'a' + 10) as u64;
-    }
-    16
 }
 
 // The number that the digits of a base stand for.
-fn number(base: u64, s: &[u8]) -> Numeral
+fn number(base: u64, s: &[u8]) -> Option<u32>
     requires { base ≤ 16 }
     ensures { result ≡ numeral_of base s.now }
 {
     let mut value: u64 = 0;
-    let mut i: usize = 0;
-    while i < s.len() {
-        let d = digit(s[i]);
+    for c in s {
+        let d = digit(*c)?;
         if base <= d {
-            return Numeral::Bad;
+            return None;
         }
         value = value * base + d;
-        if 4294967295 < value {
-            return Numeral::Bad;
+        if LARGEST < value {
+            return None;
         }
-        i += 1;
     }
-    Numeral::Of(value as u32)
+    Some(value as u32)
 }
 
 // A decimal without a leading zero.
-fn decimal(s: &[u8]) -> Numeral
+fn decimal(s: &[u8]) -> Option<u32>
     ensures { result ≡ decimal_of s.now }
 {
-    if s.len() == 0 {
-        return Numeral::Bad;
+    match s {
+        [] | [b'0', _, ..] => None,
+        _ => number(10, s),
     }
-    if s[0] == b'0' && 1 < s.len() {
-        return Numeral::Bad;
-    }
-    number(10, s)
 }
 
 // Eight hex digits.
-fn bits(s: &[u8]) -> Numeral
+fn bits(s: &[u8]) -> Option<u32>
     ensures { result ≡ bits_of s.now }
 {
     if s.len() != 8 {
-        return Numeral::Bad;
+        return None;
     }
     number(16, s)
 }
 
 // An entry: a decimal, a colon and eight hex digits.
-fn entry(s: &[u8]) -> Item
-    ensures { result ≡ entry_of s.now }
+fn entry(word: &[u8]) -> Option<Item>
+    ensures { result ≡ entry_of word.now }
 {
-    let colon = finding::find(s, 0, s.len(), b':');
-    if colon == s.len() {
-        return Item::Bad;
-    }
-    let Numeral::Of(index) = decimal(&s[..colon]) else {
-        return Item::Bad;
-    };
-    let Numeral::Of(value) = bits(&s[colon + 1..]) else {
-        return Item::Bad;
-    };
-    Item::Of(index, value)
-}
-
-// Whether two texts are the same.
-fn is_same(s: &[u8], t: &[u8]) -> bool
-    ensures { result ≡ same s.now t.now }
-{
-    if s.len() != t.len() {
-        return false;
-    }
-    let mut i: usize = 0;
-    while i < s.len() {
-        if s[i] != t[i] {
-            return false;
-        }
-        i += 1;
-    }
-    true
+    let colon = finding::find(word, b':')?;
+    let index = decimal(&word[..colon])?;
+    let bits = bits(&word[colon + 1..])?;
+    Some(Item { index, bits })
 }
 
 // The operation that a line names.
-pub fn operation(s: &[u8]) -> Named
+pub fn operation(s: &[u8]) -> Option<Op>
     ensures { result ≡ named_of s.now }
 {
-    if is_same(s, b"add") {
-        return Named::Is(Op::Add);
+    match s {
+        b"add" => Some(Op::Add),
+        b"sub" => Some(Op::Sub),
+        b"mul" => Some(Op::Mul),
+        _ => None,
     }
-    if is_same(s, b"sub") {
-        return Named::Is(Op::Sub);
-    }
-    if is_same(s, b"mul") {
-        return Named::Is(Op::Mul);
-    }
-    Named::Bad
-}
-
-// Reads the entries after the space at `from`, where a line goes on. A part of `vector`, which has tested the
-// line up to there and lends lists with room for 128 entries.
-fn entries(s: &[u8], from: usize, dims: u32, oi: &mut [u32], ob: &mut [u32]) -> Got
-    requires { (from ≤ length s.now) × (128 ≤ length oi.old) × (128 ≤ length ob.old) }
-    ensures { Reads (listed dims (words_after (drop from s.now))) oi.old ob.old result
-        oi.new ob.new }
-{
-    let mut at = from;
-    let mut n: usize = 0;
-    while at < s.len() {
-        if n == 128 {
-            return Got::Bad;
-        }
-        let end = finding::find(s, at + 1, s.len(), b' ');
-        let Item::Of(index, value) = entry(&s[at + 1..end]) else {
-            return Got::Bad;
-        };
-        oi[n] = index;
-        ob[n] = value;
-        n += 1;
-        at = end;
-    }
-    Got::Vector(dims, n)
 }
 
 // Reads a vector's line: its dims are answered with the number of its entries, which stand in front of the
 // two lists. Where the line is bad nothing is promised of the lists: they are the reader's own.
-pub fn vector(s: &[u8], oi: &mut [u32; 128], ob: &mut [u32; 128]) -> Got
-    ensures { Reads (line_of s.now) oi.old ob.old result oi.new ob.new }
+pub fn vector(s: &[u8], room: &mut Room) -> Option<Shape>
+    ensures { Reads (line_of s.now) room.old result room.new }
 {
-    let first = finding::find(s, 0, s.len(), b' ');
-    if first == s.len() {
-        return Got::Bad;
+    let mut words = s.split(|c| *c == b' ');
+    if words.next()? != b"v".as_slice() {
+        return None;
     }
-    if !is_same(&s[..first], b"v") {
-        return Got::Bad;
+    let dims = decimal(words.next()?)?;
+    let mut len: usize = 0;
+    for word in words {
+        if len == MOST {
+            return None;
+        }
+        let entry = entry(word)?;
+        room.indexes[len] = entry.index;
+        room.bits[len] = entry.bits;
+        len += 1;
     }
-    let second = finding::find(s, first + 1, s.len(), b' ');
-    let Numeral::Of(dims) = decimal(&s[first + 1..second]) else {
-        return Got::Bad;
-    };
-    entries(s, second, dims, oi, ob)
+    Some(Shape { dims, len })
 }

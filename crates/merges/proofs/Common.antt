@@ -1,30 +1,28 @@
 -- The walk of a product, which ends with the shorter reach: its turns are the places up to the smaller of the two last indexes, and past
 -- them one vector is empty. Assumes nothing.
-use Prim.Native.Nat.{ℕ, suc, ◌+◌, ◌-◌, ◌≤◌, ◌<◌, min}
-use native.Mathlib.Nat.{eq-or-lt_of_le}
-use native.Mathlib.Omega.{arith}
+use Rattle.std.proofs.Common.{◌≡◌, ℕ, suc, ◌+◌, ◌-◌, ◌≤◌, ◌<◌, min, List, length, get_or, ◌⊎◌, inl, inr, ⊎_elim, refl, ap, ◌∙◌, eq-or-lt_of_le, eq-eqb, ne_eqb, arith}
+use Rattle.std.specs.Float.{Float}
 use mathlib.Core.Bool.{or-true}
-use mathlib.Core.List.{List}
-use mathlib.Core.Logic.{◌⊎◌, inl, inr, ⊎_elim}
-use mathlib.Core.Path.{◌≡◌, refl, ap, ◌∙◌}
-use lib.ListN.{length, get_or}
-use lib.Ieee.{Float}
-use borrow.Author.Tests.{eq-eqb, ne_eqb}
 use Rattle.places.proofs.Below.{le_or_lt}
-use Rattle.sparse.specs.Vectors.{Vector, size, at}
+use Rattle.sparse.specs.Vectors.{Vector, seen, size, at}
+use Rattle.sparse.specs.declared.SVectBorrowed.{SVectBorrowed}
 use Rattle.sparse.specs.Sound.{Split, Sound}
 use Rattle.sparse.specs.declared.Cell.{Cell}
 use Rattle.sparse.specs.declared.Cell.TheVariants.{Empty, Full}
 use Rattle.sparse.proofs.Look.{look_end}
-use Rattle.walks.specs.Walk.{Taken, Turned, Put, put_count}
+use Rattle.walks.specs.Walk.{walk, Both, Taken, Turned, Put, put_count}
+use Rattle.walks.specs.declared.Walk.{Walk}
 use Rattle.walks.specs.declared.Turn.{Turn}
 use Rattle.walks.proofs.Stores.{put_most, Written, written_empty, written_lengths}
 use Rattle.walks.proofs.Turns.{to_left, to_right}
-use Rattle.walks.proofs.Walk.{Going, kept_up, taken_next}
+use Rattle.walks.proofs.Walks.{Going, standing, kept_up, taken_next}
 use Rattle.steps.specs.Places.{multiplied}
+use Rattle.steps.specs.Turns.{Steady, Stepped}
+use Rattle.steps.specs.declared.Step.{Step}
 use Rattle.merges.specs.Algebra.{joins, common_end, common_turns}
-use Rattle.merges.specs.Loops.{Ready, Fills, Passed}
+use Rattle.merges.specs.Loops.{Ready, ReadyFor, Fills, FillsBy, Passed}
 use Rattle.merges.specs.declared.Op.TheVariants.{Mul}
+use Rattle.merges.proofs.Turning.{one_ended}
 use Rattle.merges.proofs.Made.{join_at, Made, made_start, made_more, made_merged}
 
 -- ---- the place after the smaller last index
@@ -180,3 +178,49 @@ module _ {a b : Vector} {oi : List ℕ} {ov : List Float} (r : Ready a b (min (s
       (λ i lo hi w. written_empty w (empty i lo))
       g.holds.wrote in
       made_merged Mul a b (common_end a b) w (rw (← same) (omega (arith, g.holds.turned)))
+
+-- ---- a walk over a and b, and what is made of the places below it
+pub record Multiplied (a b : SVectBorrowed) (oi : List ℕ) (ov : List Float) (oi' : List ℕ) (ov' : List Float) (w : Walk) (n turns : ℕ)
+    : Type 0 where
+  pub here : w ≡ walk a w.p b w.q
+  pub made : Multiplying (seen a) (seen b) oi ov oi' ov' w.p w.q n turns
+
+pub multiplied_start : {a b : SVectBorrowed} {oi : List ℕ} {ov : List Float} → Multiplied a b oi ov oi ov (walk a 0 b 0) 0 0
+multiplied_start = record { here = refl; made = multiplying_start }
+
+module _ {a b : SVectBorrowed} {oi : List ℕ} {ov : List Float} (r : ReadyFor Mul (seen a) (seen b) oi ov)
+    {oi' : List ℕ} {ov' : List Float} {w : Walk} {n turns : ℕ} (g : Multiplied a b oi ov oi' ov' w n turns) where
+  pub multiplied_steady : Both w → Steady w n oi' ov'
+  multiplied_steady both =
+      let m = g.made in
+      let e = lengths r m in
+      let h : Both (walk a w.p b w.q) = rw g.here at both in
+      rw g.here
+      (record {
+        standing = standing r.left r.right m.going (omega (arith, h.0, h.1));
+        room = omega (arith, m.few, m.few', r.room, e.0, h.0, h.1);
+        room' = omega (arith, m.few, m.few', r.room', e.1, h.0, h.1);
+      })
+
+  -- a turn, and what is passed of either side
+  pub multiplied_more : Both w → {s : Step} {oi'' : List ℕ} {ov'' : List Float} → Stepped multiplied w n oi' ov' s oi'' ov''
+      → {i j : ℕ} → Passed a.indexes.now s.p b.indexes.now s.q i → Passed b.indexes.now s.q a.indexes.now (s.p + i) j
+      → Multiplied a b oi ov oi'' ov'' (walk w.a (s.p + i) w.b (s.q + j)) s.n (turns + (1 + i + j))
+  multiplied_more both {s} {oi''} {ov''} t' {i} {j} left right =
+      let h : Both (walk a w.p b w.q) = rw g.here at both in
+      let t : Stepped multiplied (walk a w.p b w.q) n oi' ov' s oi'' ov'' = rw g.here at t' in
+      let e : turns + (1 + i + j) ≡ turns + 1 + i + j = omega arith in
+      record {
+        here = ap (λ (v : Walk). walk v.a (s.p + i) v.b (s.q + j)) g.here;
+        made = rw e
+            (multiplying_right r
+            (multiplying_left r
+            (rw (t.left, t.right) (multiplying_more r g.made h.0 h.1 t.turned refl t.put))
+            i left)
+            j right);
+      }
+
+  pub multiplied_end : (Both w → ⊥) → FillsBy Mul (seen a) (seen b) oi ov (record { len = n; turns = turns }) oi' ov'
+  multiplied_end not_both =
+      let ended : (size (seen a) ≤ w.p) ⊎ (size (seen b) ≤ w.q) = one_ended (walk a w.p b w.q) (rw g.here at not_both) in
+      multiplying_end r g.made ended

@@ -1,11 +1,6 @@
 -- What a merge has made by the time it stands at a place: the entries and the turns of the places below. A merge may start at a later place
 -- than the first, with `before` union places below it for which it takes no turn. Assumes nothing.
-use Prim.Native.Nat.{ℕ, ◌+◌, ◌≤◌, ◌<◌}
-use native.Mathlib.Omega.{arith}
-use mathlib.Core.List.{List}
-use mathlib.Core.Path.{◌≡◌, refl, sym, ap₂, ◌∙◌}
-use lib.ListN.{length}
-use lib.Ieee.{Float}
+use Rattle.std.proofs.Common.{ℕ, ◌+◌, ◌≤◌, ◌<◌, arith, List, ◌≡◌, refl, sym, ap₂, ◌∙◌, length, Float}
 use Rattle.places.specs.Below.{count_below}
 use Rattle.places.proofs.Below.{count_none, count_zero, count_hit}
 use Rattle.sparse.specs.Vectors.{Vector, size, at, vector_of, in_union}
@@ -15,7 +10,7 @@ use Rattle.sparse.specs.declared.Cell.TheVariants.{Empty}
 use Rattle.walks.specs.Walk.{Turned, Put}
 use Rattle.walks.specs.declared.Turn.{Turn}
 use Rattle.walks.proofs.Stores.{put_most, Written, written_none, written_empty, written_most, written_lengths, written_more}
-use Rattle.walks.proofs.Walk.{Quiet, Going, within_dims, going_start, going_more, going_end, left_cell, right_cell, in_union_lem, place_below}
+use Rattle.walks.proofs.Walks.{Quiet, Going, within_dims, going_start, going_more, going_end, left_cell, right_cell, in_union_lem, place_below}
 use Rattle.merges.specs.Algebra.{joined, joins, union_turns, room_for}
 use Rattle.merges.specs.Loops.{Ready, Fills}
 use Rattle.merges.specs.declared.Op.{Op}
@@ -101,16 +96,16 @@ module _ {op : Op} {before : ℕ} {a b : Vector} {oi : List ℕ} {ov : List Floa
 
 -- ---- from the first place on, to outputs of the room that add and sub ask for
 module _ {op : Op} {a b : Vector} {oi : List ℕ} {ov : List Float} (r : Ready a b (room_for Add a.dims (size a) (size b)) oi ov)
-    (same : a.dims ≡ b.dims) {oi' : List ℕ} {ov' : List Float} {p q n turns : ℕ} (m : Merging op 0 a b oi ov oi' ov' p q n turns) where
+    {oi' : List ℕ} {ov' : List Float} {p q n turns : ℕ} (m : Merging op 0 a b oi ov oi' ov' p q n turns) where
   pub lengths : (length oi' ≡ length oi) × (length ov' ≡ length ov)
   lengths =
-      let f = (merging_fits r.left r.right m same).0 in
+      let f = (merging_fits r.left r.right m r.same).0 in
       let p_most = m.going.walk.left.within in
       written_lengths m.going.holds.wrote (omega (arith, f, p_most, r.room)) (omega (arith, f, p_most, r.room'))
 
   pub fits : p + q < size a + size b → (n < length oi) × (n < length ov)
   fits h =
-      let f = merging_fits r.left r.right m same in
+      let f = merging_fits r.left r.right m r.same in
       (omega (arith, f.0, f.1, r.room), omega (arith, f.0, f.1, r.room'))
 
   pub merging_fills : size a + size b ≤ p + q → Fills (joins op a b) (union_turns a b) oi ov (record { len = n; turns = turns }) oi' ov'

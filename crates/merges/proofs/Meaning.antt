@@ -1,11 +1,8 @@
 -- What add, sub and mul write is a vector that passes its check, and holds at each place what the two places give. Assumes nothing.
-use Prim.Native.Nat.{ℕ, ◌*◌, ◌<◌}
-use native.Mathlib.Nat.{zero-mul}
-use mathlib.Core.Bool.{Bool, true, false, not, ◌&&◌, ◌||◌, beq}
-use mathlib.Core.Path.{◌≡◌, refl, sym, ◌∙◌}
-use lib.Dec.{eqb}
-use lib.Ieee.{Float, nan, inf, fin, binary32, of_bits, add, sub, mul, eq, neg, level, up, down}
-use Rattle.refusal.specs.declared.Checked.TheVariants.{Valid}
+use Rattle.std.proofs.Common.{ℕ, ◌*◌, ◌<◌, zero-mul, Bool, true, false, not, ◌&&◌, ◌||◌, ◌≡◌, refl, sym, ◌∙◌, eqb, Float}
+use mathlib.Core.Bool.{beq}
+use lib.Ieee.{nan, inf, fin, binary32, of_bits, add, sub, mul, eq, neg, level, up, down}
+use Rattle.refusal.specs.Answers.{Valid}
 use Rattle.sparse.specs.Cells.{is_zero}
 use Rattle.sparse.specs.Vectors.{Vector, at}
 use Rattle.sparse.specs.Calls.{checked_of}

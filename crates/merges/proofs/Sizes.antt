@@ -1,10 +1,6 @@
 -- How many entries two vectors of equal dims give: no more than both have, and no more than there are places. Assumes nothing.
-use Prim.Native.Nat.{ℕ, zero, suc, ◌+◌, ◌≤◌}
-use native.Mathlib.Omega.{arith}
-use mathlib.Core.Bool.{Bool, true, false, cond}
-use mathlib.Core.Path.{◌≡◌, ap}
-use lib.ListN.{length, length-append}
-use lib.Ieee.{Float, binary32, add, sub, mul}
+use Rattle.std.proofs.Common.{ℕ, zero, suc, ◌+◌, ◌≤◌, arith, Bool, true, false, cond, ◌≡◌, ap, length, length-append, Float}
+use lib.Ieee.{binary32, add, sub, mul}
 use Rattle.sparse.specs.Cells.{is_zero, keep, index_of, indexes_below}
 use Rattle.sparse.specs.Vectors.{Vector, size, at}
 use Rattle.sparse.specs.Sound.{Sound}

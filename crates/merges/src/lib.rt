@@ -3,16 +3,18 @@
 
 #![tactic(auto)]
 
-ghost use Rattle.std.specs.Prelude.{◌≡◌, ◌+◌, ◌≤◌, min, length};
-ghost use Rattle.sparse.specs.Vectors.{vector};
+ghost use Rattle.std.specs.Prelude.{◌≡◌, ◌+◌, ◌≤◌, length};
+ghost use Rattle.sparse.specs.Vectors.{seen};
 ghost use Rattle.sparse.specs.Sound.{Rising};
-ghost use Rattle.merges.specs.Algebra.{joins, union_turns, common_turns, turns_of, room_for};
+ghost use Rattle.merges.specs.Algebra.{room_for};
 ghost use Rattle.merges.specs.Calls.{Joins};
-ghost use Rattle.merges.specs.Loops.{Ready, Fills, op_of, Below, Passed};
+ghost use Rattle.merges.specs.Loops.{ReadyFor, FillsBy, op_of, Below, Passed};
 ghost use Rattle.merges.specs.declared.Op.TheVariants.{Add, Sub, Mul};
 
-use refusal::{Checked, Merged};
-use walks::Way;
+use refusal::{Merged, Refusal};
+use sparse::SVectBorrowed;
+use steps::Sign;
+use walks::{Walk, Way};
 
 // How two places are put together.
 #[derive(Clone, Copy)]
@@ -23,7 +25,7 @@ pub enum Op {
 }
 
 // The entries written, and the turns taken.
-#[derive(Drop)]
+#[derive(Clone, Copy)]
 pub struct Both {
     pub len: usize,
     pub turns: usize,
@@ -32,172 +34,136 @@ pub struct Both {
 // Writes the sum or the difference of two vectors of equal dims, walking over both to the end of both. How many
 // entries of either side the last turns passed says by which way to go on.
 fn merge(
-    negate: bool,
-    dims: u32,
-    ia: &[u32],
-    va: &[f32],
-    ib: &[u32],
-    vb: &[f32],
+    sign: Sign,
+    a: SVectBorrowed<'_>,
+    b: SVectBorrowed<'_>,
     oi: &mut [u32],
     ov: &mut [f32],
 ) -> Both
-    requires { Ready (vector dims ia.now va.now) (vector dims ib.now vb.now) (room_for Add dims (length ia.now) (length ib.now)) oi.old ov.old }
-    ensures { Fills (joins (op_of negate) (vector dims ia.now va.now) (vector dims ib.now vb.now)) (union_turns (vector dims ia.now va.now) (vector dims ib.now vb.now)) oi.old ov.old result oi.new ov.new }
+    requires { ReadyFor Add (seen a) (seen b) oi.old ov.old }
+    ensures { FillsBy (op_of sign) (seen a.entry) (seen b.entry) oi.old ov.old result oi.new ov.new }
 {
-    let mut p: usize = 0;
-    let mut q: usize = 0;
+    let mut w = Walk::start(a, b);
     let mut n: usize = 0;
     let mut turns: usize = 0;
     let mut way = Way::Quick;
-    while p < ia.len() && q < ib.len() {
-        let r = merge_runs::any_run(negate, way, ia, va, p, ib, vb, q, oi, ov, n);
-        way = walks::way_on(r.turns, r.p - p, r.q - q);
-        p = r.p;
-        q = r.q;
+    while w.has_both() {
+        let r = merge_runs::any_run(sign, way, w, oi, ov, n);
+        way = walks::way_on(r.turns, r.p - w.p, r.q - w.q);
+        w.p = r.p;
+        w.q = r.q;
         n = r.n;
         turns += r.turns;
     }
-    let r = merge_runs::finish(negate, ia, va, p, ib, vb, q, oi, ov, n);
+    let r = merge_runs::finish(sign, w, oi, ov, n);
     Both {
         len: r.n,
         turns: turns + r.turns,
     }
 }
 
-// Writes the product of two vectors of equal dims, walking over both to the end of one.
-fn quick_multiply(
-    dims: u32,
-    ia: &[u32],
-    va: &[f32],
-    ib: &[u32],
-    vb: &[f32],
-    oi: &mut [u32],
-    ov: &mut [f32],
-) -> Both
-    requires { Ready (vector dims ia.now va.now) (vector dims ib.now vb.now) (min (length ia.now) (length ib.now)) oi.old ov.old }
-    ensures { Fills (joins Mul (vector dims ia.now va.now) (vector dims ib.now vb.now)) (common_turns (vector dims ia.now va.now) (vector dims ib.now vb.now)) oi.old ov.old result oi.new ov.new }
-{
-    let mut p: usize = 0;
-    let mut q: usize = 0;
-    let mut len: usize = 0;
-    let mut turns: usize = 0;
-    while p < ia.len() && q < ib.len() {
-        let s = steps::mul_step(ia, va, p, ib, vb, q, oi, ov, len);
-        p = s.p;
-        q = s.q;
-        len = s.n;
-        turns += 1;
-    }
-    Both {
-        len: len,
-        turns: turns,
+// How a product finds the entries of a side, of which these are left, that come before a place of the other side. It may
+// find fewer. A product has the way as a type, so that its loop has no test of it.
+trait Passing {
+    fn count_below(rest: &[u32], place: u32) -> usize
+        requires { Rising rest.now }
+        ensures { Below rest.now place result };
+}
+
+// For sides that are as long: none are passed but by turns.
+struct Never;
+
+impl Passing for Never {
+    fn count_below(_rest: &[u32], _place: u32) -> usize {
+        0
     }
 }
 
-// How many indexes from p on are below `place`, looked at one by one.
-fn scan_below(is: &[u32], p: usize, place: u32) -> usize
-    requires { p ≤ length is.now }
-    ensures { Below is.now p place result }
-{
-    let mut k: usize = 0;
-    while p + k < is.len() {
-        let i = is[p + k];
-        if place <= i {
-            return k;
+// For sides of which one has most entries: they are looked at one by one.
+struct Scan;
+
+impl Passing for Scan {
+    fn count_below(rest: &[u32], place: u32) -> usize {
+        for (k, i) in rest.iter().enumerate() {
+            if place <= *i {
+                return k;
+            }
         }
-        k += 1;
+        rest.len()
     }
-    k
 }
 
-// How many indexes from p on are below the other side's index q. None are where that side has ended. Where they may be
-// many they are searched.
-fn count_below(far: bool, is: &[u32], p: usize, js: &[u32], q: usize) -> usize
+// For sides of which one has nearly all entries: they are searched.
+struct Search;
+
+impl Passing for Search {
+    fn count_below(rest: &[u32], place: u32) -> usize {
+        walks::near_point(rest, place)
+    }
+}
+
+// How many indexes from p on are passed that are below the other side's index q. None are where that side has ended.
+fn pass<P: Passing>(is: &[u32], p: usize, js: &[u32], q: usize) -> usize
     requires { Rising is.now × (p ≤ length is.now) }
     ensures { Passed is.now p js.now q result }
 {
-    if js.len() <= q {
-        return 0;
+    match js.get(q) {
+        Some(place) => P::count_below(&is[p..], *place),
+        None => 0,
     }
-    if far {
-        return walks::near_point(&is[p..is.len()], js[q]);
-    }
-    scan_below(is, p, js[q])
 }
 
-// Writes the same, for vectors of which one has nearly all entries: after each turn those that come before the other
-// side's next are found, and passed at once.
-fn skip_multiply(
-    far: bool,
-    dims: u32,
-    ia: &[u32],
-    va: &[f32],
-    ib: &[u32],
-    vb: &[f32],
+// Writes the product of two vectors of equal dims, walking over both to the end of one. After each turn those entries that
+// are found to come before the other side's next are passed at once.
+fn multiply_by<P: Passing>(
+    a: SVectBorrowed<'_>,
+    b: SVectBorrowed<'_>,
     oi: &mut [u32],
     ov: &mut [f32],
 ) -> Both
-    requires { Ready (vector dims ia.now va.now) (vector dims ib.now vb.now) (min (length ia.now) (length ib.now)) oi.old ov.old }
-    ensures { Fills (joins Mul (vector dims ia.now va.now) (vector dims ib.now vb.now)) (common_turns (vector dims ia.now va.now) (vector dims ib.now vb.now)) oi.old ov.old result oi.new ov.new }
+    requires { ReadyFor Mul (seen a) (seen b) oi.old ov.old }
+    ensures { FillsBy Mul (seen a.entry) (seen b.entry) oi.old ov.old result oi.new ov.new }
 {
-    let mut p: usize = 0;
-    let mut q: usize = 0;
+    let mut w = Walk::start(a, b);
     let mut len: usize = 0;
     let mut turns: usize = 0;
-    while p < ia.len() && q < ib.len() {
-        let s = steps::mul_step(ia, va, p, ib, vb, q, oi, ov, len);
-        let a = count_below(far, ia, s.p, ib, s.q);
-        p = s.p + a;
-        let b = count_below(far, ib, s.q, ia, p);
-        q = s.q + b;
+    while w.has_both() {
+        let s = steps::mul_step(w, oi, ov, len);
+        let left = pass::<P>(a.indexes, s.p, b.indexes, s.q);
+        w.p = s.p + left;
+        let right = pass::<P>(b.indexes, s.q, a.indexes, w.p);
+        w.q = s.q + right;
         len = s.n;
-        turns += 1 + a + b;
+        turns += 1 + left + right;
     }
-    Both {
-        len: len,
-        turns: turns,
-    }
+    Both { len, turns }
 }
 
-// Writes the same by one way or the other.
-fn multiply(
-    dims: u32,
-    ia: &[u32],
-    va: &[f32],
-    ib: &[u32],
-    vb: &[f32],
-    oi: &mut [u32],
-    ov: &mut [f32],
-) -> Both
-    requires { Ready (vector dims ia.now va.now) (vector dims ib.now vb.now) (min (length ia.now) (length ib.now)) oi.old ov.old }
-    ensures { Fills (joins Mul (vector dims ia.now va.now) (vector dims ib.now vb.now)) (common_turns (vector dims ia.now va.now) (vector dims ib.now vb.now)) oi.old ov.old result oi.new ov.new }
+// Writes the same by one way or another.
+fn multiply(a: SVectBorrowed<'_>, b: SVectBorrowed<'_>, oi: &mut [u32], ov: &mut [f32]) -> Both
+    requires { ReadyFor Mul (seen a) (seen b) oi.old ov.old }
+    ensures { FillsBy Mul (seen a.entry) (seen b.entry) oi.old ov.old result oi.new ov.new }
 {
-    let all = ia.len() + ib.len();
-    let fewer = walks::smaller(ia.len(), ib.len());
+    let all = a.indexes.len() + b.indexes.len();
+    let fewer = a.indexes.len().min(b.indexes.len());
     if all / 5 <= fewer {
-        return quick_multiply(dims, ia, va, ib, vb, oi, ov);
+        return multiply_by::<Never>(a, b, oi, ov);
     }
-    skip_multiply(fewer < all / 32, dims, ia, va, ib, vb, oi, ov)
+    if all / 32 <= fewer {
+        return multiply_by::<Scan>(a, b, oi, ov);
+    }
+    multiply_by::<Search>(a, b, oi, ov)
 }
 
 // Writes what two vectors of equal dims give.
-fn write(
-    op: Op,
-    dims: u32,
-    ia: &[u32],
-    va: &[f32],
-    ib: &[u32],
-    vb: &[f32],
-    oi: &mut [u32],
-    ov: &mut [f32],
-) -> Both
-    requires { Ready (vector dims ia.now va.now) (vector dims ib.now vb.now) (room_for op dims (length ia.now) (length ib.now)) oi.old ov.old }
-    ensures { Fills (joins op (vector dims ia.now va.now) (vector dims ib.now vb.now)) (turns_of op (vector dims ia.now va.now) (vector dims ib.now vb.now)) oi.old ov.old result oi.new ov.new }
+fn write(op: Op, a: SVectBorrowed<'_>, b: SVectBorrowed<'_>, oi: &mut [u32], ov: &mut [f32]) -> Both
+    requires { ReadyFor op (seen a) (seen b) oi.old ov.old }
+    ensures { FillsBy op (seen a.entry) (seen b.entry) oi.old ov.old result oi.new ov.new }
 {
     match op {
-        Op::Add => merge(false, dims, ia, va, ib, vb, oi, ov),
-        Op::Sub => merge(true, dims, ia, va, ib, vb, oi, ov),
-        Op::Mul => multiply(dims, ia, va, ib, vb, oi, ov),
+        Op::Add => merge(Sign::Plus, a, b, oi, ov),
+        Op::Sub => merge(Sign::Minus, a, b, oi, ov),
+        Op::Mul => multiply(a, b, oi, ov),
     }
 }
 
@@ -207,88 +173,69 @@ fn room_for(op: Op, dims: u32, a: usize, b: usize) -> usize
     requires { a + b ≤ 2097150 }
     ensures { result ≡ room_for op dims a b }
 {
-    let both = a + b;
     match op {
-        Op::Add => walks::smaller(both, dims as usize),
-        Op::Sub => walks::smaller(both, dims as usize),
-        Op::Mul => walks::smaller(a, b),
+        Op::Add | Op::Sub => (a + b).min(dims as usize),
+        Op::Mul => a.min(b),
     }
 }
 
 // Tests two vectors and the room, and writes what they give. Refuses as `sparse::check_pair` does, and then with
-// ROOM, which carries the entries needed.
+// Room, which carries the entries needed.
 pub fn join(
     op: Op,
-    dims_a: u32,
-    ia: &[u32],
-    va: &[f32],
-    dims_b: u32,
-    ib: &[u32],
-    vb: &[f32],
+    a: SVectBorrowed<'_>,
+    b: SVectBorrowed<'_>,
     oi: &mut [u32],
     ov: &mut [f32],
-) -> Merged
-    ensures { Joins op (vector dims_a ia.now va.now) (vector dims_b ib.now vb.now) oi.old ov.old result oi.new ov.new }
+) -> Result<Merged, Refusal>
+    ensures { Joins op (seen a.entry) (seen b.entry) oi.old ov.old result oi.new ov.new }
 {
-    if let Checked::Refused(number, place) = sparse::check_pair(dims_a, ia, va, dims_b, ib, vb) {
-        return Merged::Refused(number, place);
+    sparse::check_pair(a, b)?;
+    let room = room_for(op, a.dims, a.indexes.len(), b.indexes.len());
+    if oi.len() < room || ov.len() < room {
+        return Err(Refusal::Room(room));
     }
-    let room = room_for(op, dims_a, ia.len(), ib.len());
-    if oi.len() < room {
-        return Merged::Refused(refusal::ROOM, room);
-    }
-    if ov.len() < room {
-        return Merged::Refused(refusal::ROOM, room);
-    }
-    let m = write(op, dims_a, ia, va, ib, vb, oi, ov);
-    Merged::Done(dims_a, m.len, m.turns)
+    let Both { len, turns } = write(op, a, b, oi, ov);
+    Ok(Merged {
+        dims: a.dims,
+        len,
+        turns,
+    })
 }
 
 // Writes a + b to the front of `oi` and `ov`, and answers its dims, entries and turns. Refuses as
-// `sparse::check_pair` does, and then with ROOM. So do the next two.
+// `sparse::check_pair` does, and then with Room. So do the next two.
 pub fn add(
-    dims_a: u32,
-    ia: &[u32],
-    va: &[f32],
-    dims_b: u32,
-    ib: &[u32],
-    vb: &[f32],
+    a: SVectBorrowed<'_>,
+    b: SVectBorrowed<'_>,
     oi: &mut [u32],
     ov: &mut [f32],
-) -> Merged
-    ensures { Joins Add (vector dims_a ia.now va.now) (vector dims_b ib.now vb.now) oi.old ov.old result oi.new ov.new }
+) -> Result<Merged, Refusal>
+    ensures { Joins Add (seen a.entry) (seen b.entry) oi.old ov.old result oi.new ov.new }
 {
-    join(Op::Add, dims_a, ia, va, dims_b, ib, vb, oi, ov)
+    join(Op::Add, a, b, oi, ov)
 }
 
 // Writes a - b.
 pub fn sub(
-    dims_a: u32,
-    ia: &[u32],
-    va: &[f32],
-    dims_b: u32,
-    ib: &[u32],
-    vb: &[f32],
+    a: SVectBorrowed<'_>,
+    b: SVectBorrowed<'_>,
     oi: &mut [u32],
     ov: &mut [f32],
-) -> Merged
-    ensures { Joins Sub (vector dims_a ia.now va.now) (vector dims_b ib.now vb.now) oi.old ov.old result oi.new ov.new }
+) -> Result<Merged, Refusal>
+    ensures { Joins Sub (seen a.entry) (seen b.entry) oi.old ov.old result oi.new ov.new }
 {
-    join(Op::Sub, dims_a, ia, va, dims_b, ib, vb, oi, ov)
+    join(Op::Sub, a, b, oi, ov)
 }
 
 // Writes a * b.
 pub fn mul(
-    dims_a: u32,
-    ia: &[u32],
-    va: &[f32],
-    dims_b: u32,
-    ib: &[u32],
-    vb: &[f32],
+    a: SVectBorrowed<'_>,
+    b: SVectBorrowed<'_>,
     oi: &mut [u32],
     ov: &mut [f32],
-) -> Merged
-    ensures { Joins Mul (vector dims_a ia.now va.now) (vector dims_b ib.now vb.now) oi.old ov.old result oi.new ov.new }
+) -> Result<Merged, Refusal>
+    ensures { Joins Mul (seen a.entry) (seen b.entry) oi.old ov.old result oi.new ov.new }
 {
-    join(Op::Mul, dims_a, ia, va, dims_b, ib, vb, oi, ov)
+    join(Op::Mul, a, b, oi, ov)
 }

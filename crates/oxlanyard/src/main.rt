@@ -1,7 +1,8 @@
 // Answers a session that it reads from standard input with one line on standard output: see `session`.
 //
 // 12,289 bytes are enough, whatever follows them: three lines have at most 4,096 bytes each, and one byte more tells
-// whether there is a fourth (`enough` in crates/session/proofs/Enough.antt).
+// whether there is a fourth (`enough` in crates/session/proofs/Enough.antt). They and the line have room in lists of a fixed
+// size, since the program has no heap.
 
 #![tactic(auto)]
 

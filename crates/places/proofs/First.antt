@@ -1,13 +1,9 @@
 -- The laws of `first_from`. Assumes nothing.
-use Prim.Native.Nat.{ℕ, zero, suc, ◌+◌, ◌≤◌, ◌<◌}
-use native.Mathlib.Nat.{eq-or-lt_of_le}
-use native.Mathlib.Omega.{arith}
-use mathlib.Core.Bool.{Bool, true, false, cond}
-use mathlib.Core.Logic.{⊎_elim}
-use mathlib.Core.Path.{◌≡◌, refl}
+use Rattle.std.proofs.Common.{◌≡◌, ℕ, zero, suc, ◌+◌, ◌≤◌, ◌<◌, Bool, true, false, cond, Some, None, List, length, get_or, position, ltb, refl, sym, ◌∙◌, ⊎_elim, eq-or-lt_of_le, arith, le-ltb, lt-ltb}
+use Rattle.std.proofs.lemmas.List.Sums.{position_or_len_is}
 use Rattle.places.specs.Below.{any_below}
-use Rattle.places.specs.Search.{first_from}
-use Rattle.places.proofs.Below.{any_none, any_true}
+use Rattle.places.specs.Search.{first_from, first_where}
+use Rattle.places.proofs.Below.{le_or_lt, any_none, any_true}
 
 pub found : (t : ℕ → Bool) (m j i : ℕ) → ((k : ℕ) → j ≤ k → k < i → t k ≡ false) → t i ≡ true → j ≤ i → i < j + m → first_from t m j ≡ i
 unfolding first_from
@@ -65,3 +61,38 @@ some_first t n h = any_true t n (first_from t n 0) h (hit t n 0 (omega arith))
 
 pub none_first : (t : ℕ → Bool) (n : ℕ) → n ≤ first_from t n 0 → any_below t n ≡ false
 none_first t n h = any_none t n (λ i l. before t n 0 i (omega arith) (omega arith))
+
+-- ---- the first place, if there is one
+
+pub where_found : (t : ℕ → Bool) (n i : ℕ) → i < n → t i ≡ true → ((k : ℕ) → k < i → t k ≡ false) → first_where t n ≡ Some i
+where_found t n i l hit all = rw (any_true t n i l hit, found t n 0 i (λ k a b. all k b) hit (omega arith) (omega arith))
+
+pub where_none : (t : ℕ → Bool) (n : ℕ) → ((k : ℕ) → k < n → t k ≡ false) → first_where t n ≡ None
+where_none t n all = rw (any_none t n all)
+
+-- and back
+pub where_some : (t : ℕ → Bool) (n i : ℕ) → first_where t n ≡ Some i → (any_below t n ≡ true) × (i ≡ first_from t n 0)
+where_some t n i e = go (any_below t n) refl e
+  where
+    go : (b : Bool) → any_below t n ≡ b → cond b (Some (first_from t n 0)) None ≡ Some i → (any_below t n ≡ true) × (i ≡ first_from t n 0)
+    go true h q = (h, cc)
+    go false h q = absurd cc
+
+pub where_nowhere : (t : ℕ → Bool) (n : ℕ) → first_where t n ≡ None → any_below t n ≡ false
+where_nowhere t n e = go (any_below t n) refl e
+  where
+    go : (b : Bool) → any_below t n ≡ b → cond b (Some (first_from t n 0)) None ≡ None → any_below t n ≡ false
+    go true h q = absurd cc
+    go false h q = h
+
+-- the first that passes tells whether one does
+pub first_tells : (t : ℕ → Bool) (n : ℕ) → ltb (first_from t n 0) n ≡ any_below t n
+first_tells t n =
+    ⊎_elim (λ h. le-ltb _ n h ∙ sym (none_first t n h)) (λ h. lt-ltb _ n h ∙ sym (some_first t n h)) (le_or_lt n (first_from t n 0))
+
+-- the library's search, as a search over places
+pub position_where : {A : Type 0} (p : A → Bool) (xs : List A) (d : A) → position p xs ≡ first_where (λ j. p (get_or xs j d)) (length xs)
+position_where p xs d =
+    let t : ℕ → Bool = λ j. p (get_or xs j d) in
+    let n = length xs in
+    rw (position_or_len_is p xs (first_from t n 0) d (omega (arith, most t n 0)) (λ k l. before t n 0 k (omega arith) l) (λ l. hit t n 0 (omega arith)), first_tells t n)

@@ -1,4 +1,4 @@
-#![tactic(auto)]
-
 // What stands at the places of a vector: the definitions are in specs/, their laws in proofs/.
 // There is no code here.
+
+#![tactic(auto)]

@@ -1,10 +1,9 @@
 -- Document 01, "The program": what the first line of some bytes is, and what it means. "Each line ends in a newline and has at most 4,096
 -- bytes with it".
-use Rattle.std.specs.Prelude.{ℕ, suc, Bool, ◌&&◌, cond, List, ltb, length, take, drop}
+use Rattle.std.specs.Prelude.{ℕ, suc, Bool, ◌&&◌, cond, List, ltb, length, take, drop, Option, None}
 use Rattle.finding.specs.Finding.{index_of}
+use Rattle.merges.specs.declared.Op.{Op}
 use Rattle.lines.specs.Lines.{Line, bad_line, line_of, named_of}
-use Rattle.lines.specs.declared.Named.{Named}
-use Rattle.lines.specs.declared.Named.TheVariants.{Bad}
 
 -- the bytes start with a line: "ends in a newline and has at most 4,096 bytes with it"
 abbrev pub has_line : List ℕ → Bool
@@ -21,5 +20,5 @@ rest s = drop (suc (index_of 10 s)) s
 abbrev pub first_vector : List ℕ → Line
 first_vector s = cond (has_line s) (line_of (first_line s)) bad_line
 
-abbrev pub first_name : List ℕ → Named
-first_name s = cond (has_line s) (named_of (first_line s)) Bad
+abbrev pub first_name : List ℕ → Option Op
+first_name s = cond (has_line s) (named_of (first_line s)) None

@@ -1,68 +1,59 @@
-// Reads the lines of a session, one after the other. These are parts of `session`, and no calls that a user makes: that
-// a line starts within the bytes is required.
+// Reads the lines of a session, one after the other. These are parts of `session`, and no calls that a user makes.
 
 #![tactic(auto)]
 
-ghost use Rattle.std.specs.Prelude.{cond, not, ◌≡◌, ◌+◌, ◌≤◌, eqb, length, drop};
-ghost use Rattle.finding.specs.Finding.{index_of};
+ghost use Rattle.std.specs.Prelude.{◌≡◌, false, not, eqb, length, MatchOption, IfSome};
+ghost use Rattle.lines.specs.Lines.{Reads};
 ghost use Rattle.reading.specs.Starts.{has_line, rest, first_vector, first_name};
-ghost use Rattle.reading.specs.Parts.{ReadsFrom};
+ghost use Rattle.reading.specs.Parts.{IsFirst};
 
-use lines::{Got, Named};
+use lines::{Room, Shape};
+use merges::Op;
 
-// A vector's line that was read: its dims, the number of its entries, and the place after it.
-#[derive(Drop)]
-pub enum Read {
-    Vector(u32, usize, usize),
-    Bad,
+// The most bytes of a line, with its newline.
+const LONGEST: usize = 4096;
+
+// What is left of an input.
+#[derive(Clone, Copy)]
+pub struct Input<'a> {
+    pub rest: &'a [u8],
 }
 
-// Where the line that starts at `from` ends: the place of its newline, or the length if it has none, or too
-// many bytes.
-fn line_end(s: &[u8], from: usize) -> usize
-    requires { from ≤ length s.now }
-    ensures { result ≡ cond (has_line (drop from s.now)) (from + index_of 10 (drop from s.now)) (length s.now) }
-{
-    let end = finding::find(s, from, s.len(), b'\n');
-    if end - from < 4096 {
-        return end;
+impl<'a> Input<'a> {
+    // Reads a line, and answers it without its newline. There is none where there is no newline, or where too many bytes
+    // come before it.
+    fn line(&mut self) -> Option<&'a [u8]>
+        ensures { MatchOption result (has_line self.old.rest.now ≡ false) (λ l. IsFirst self.old.rest.now l.now self.new.rest.now) }
+    {
+        let end = finding::find(self.rest, b'\n')?;
+        if end < LONGEST {
+            let line = &self.rest[..end];
+            self.rest = &self.rest[end + 1..];
+            return Some(line);
+        }
+        None
     }
-    s.len()
-}
 
-// Reads the vector's line that starts at `from`.
-pub fn vector_line(s: &[u8], from: usize, oi: &mut [u32; 128], ob: &mut [u32; 128]) -> Read
-    requires { from ≤ length s.now }
-    ensures { ReadsFrom (first_vector (drop from s.now)) s.now from
-        oi.old ob.old result oi.new ob.new }
-{
-    let end = line_end(s, from);
-    if end == s.len() {
-        return Read::Bad;
+    // Reads a vector's line.
+    pub fn vector_line(&mut self, room: &mut Room) -> Option<Shape>
+        ensures entries { Reads (first_vector self.old.rest.now) room.old result room.new }
+        ensures left { IfSome result (λ _. self.new.rest.now ≡ rest self.old.rest.now) }
+    {
+        lines::vector(self.line()?, room)
     }
-    match lines::vector(&s[from..end], oi, ob) {
-        Got::Vector(dims, n) => Read::Vector(dims, n, end + 1),
-        Got::Bad => Read::Bad,
-    }
-}
 
-// The operation that the line names that starts at `from`.
-pub fn operation_line(s: &[u8], from: usize) -> Named
-    requires { from ≤ length s.now }
-    ensures { result ≡ first_name (drop from s.now) }
-{
-    let end = line_end(s, from);
-    if end == s.len() {
-        return Named::Bad;
+    // Reads the line that names the operation.
+    pub fn operation_line(&mut self) -> Option<Op>
+        ensures name { result ≡ first_name self.old.rest.now }
+        ensures left { IfSome result (λ _. self.new.rest.now ≡ rest self.old.rest.now) }
+    {
+        lines::operation(self.line()?)
     }
-    lines::operation(&s[from..end])
-}
 
-// Whether anything follows the first newline from `from` on.
-pub fn goes_on(s: &[u8], from: usize) -> bool
-    requires { from ≤ length s.now }
-    ensures { result ≡ not (eqb (length (rest (drop from s.now))) 0) }
-{
-    let end = finding::find(s, from, s.len(), b'\n');
-    1 < s.len() - end
+    // Whether anything follows.
+    pub fn goes_on(self) -> bool
+        ensures { result ≡ not (eqb (length self.entry.rest.now) 0) }
+    {
+        0 < self.rest.len()
+    }
 }

@@ -1,118 +1,125 @@
--- What an answer says decides which answer it is: it can be read back from what it says. A distance has a float and an order has a case, which
--- no refusal has. The other kinds are told from a refusal by the number alone, so there no refusal may have the number 0, which is done;
--- document 01 has none. So `told` of a promise decides the answer by itself (`told_decides`). Assumes nothing.
-use Prim.Native.Nat.{ℕ}
-use mathlib.Core.Bool.{cond}
-use mathlib.Core.List.{List, [], ◌∷◌}
-use mathlib.Core.Path.{◌≡◌, refl, sym, ap, ◌∙◌}
-use lib.Dec.{eqb}
-use lib.Ieee.{Float}
-use lib.ListN.{get_or}
-use borrow.Author.Tests.{ne_eqb}
-use Rattle.refusal.specs.Answers.{Says, Answers, checked_says, distance_says, written_says, merged_says, asked_says, order_says}
-use Rattle.refusal.specs.declared.Checked.{Checked}
-use Rattle.refusal.specs.declared.Checked.TheVariants.{Valid, Refused}
-use Rattle.refusal.specs.declared.Distance.{Distance}
-use Rattle.refusal.specs.declared.Distance.TheVariants.{Value, Refused as NoDistance}
+-- What an answer says decides which answer it is: it can be read back from what it says, since no refusal has the number 0, which is done.
+-- So `told` of a promise decides the answer by itself (`told_decides`). Assumes nothing.
+use Rattle.std.proofs.Common.{◌≡◌, ℕ, Bool, true, false, cond, eqb, List, [], ◌∷◌, Float, Option, Some, None, Result, Ok, Err, get_or, refl, sym, ap, ◌∙◌}
+use Rattle.std.specs.Float.{nan}
+use Rattle.std.specs.declared.cmp.Ordering.{Ordering}
+use Rattle.std.specs.declared.cmp.Ordering.TheVariants.{Less, Equal, Greater}
+use Rattle.refusal.specs.Answers.{Checked, Says, refused, tells, Answers, checked_says, distance_says, written, written_says, merged_says, asked_says, order_says}
+use Rattle.refusal.specs.declared.Refusal.{Refusal}
+use Rattle.refusal.specs.declared.Refusal.TheVariants.{Dims, Length, Order, Index, Zero, Padding, Differ, Bounds, Room, Need, Count, NotBegun, State, NotNeeded}
 use Rattle.refusal.specs.declared.Written.{Written}
-use Rattle.refusal.specs.declared.Written.TheVariants.{Done, Refused as NotWritten}
 use Rattle.refusal.specs.declared.Merged.{Merged}
-use Rattle.refusal.specs.declared.Merged.TheVariants.{Done as Joined, Refused as NotMerged}
-use Rattle.refusal.specs.declared.Asked.{Asked}
-use Rattle.refusal.specs.declared.Asked.TheVariants.{Yes, No, Refused as NotAsked}
-use Rattle.refusal.specs.declared.Ordering.{Ordering}
-use Rattle.refusal.specs.declared.Ordering.TheVariants.{Less, Equal, Greater, Unordered, Refused as NoOrder}
 
 -- answers that can be read back and say the same are the same
-pub decided : {A : Type 0} (says_of : A → Says) (back : Says → A) {r s : A} → back (says_of r) ≡ r → back (says_of s) ≡ s
-    → says_of r ≡ says_of s → r ≡ s
-decided says_of back p q e = sym p ∙ ap back e ∙ q
+pub decided : {A : Type 0} (says_of : A → Says) (back : Says → A) → ((r : A) → back (says_of r) ≡ r) → (r s : A) → says_of r ≡ says_of s → r ≡ s
+decided says_of back fair r s e = sym (fair r) ∙ ap back e ∙ fair s
 
 -- and so an answer that says what a promise says is the promised one
-pub told_decides : {A : Type 0} {says_of : A → Says} {said : Checked → Says} {give : Checked → A} {due : Checked} {r s : A}
-    → Answers says_of said give due r → (says_of s ≡ says_of r → s ≡ r) → says_of s ≡ said due → s ≡ r
+pub told_decides : {A : Type 0} {says_of : Result A Refusal → Says} {vs : List ℕ} {fs : List Float} {x : A} {due : Checked} {r s : Result A Refusal}
+    → Answers says_of vs fs x due r → (says_of s ≡ says_of r → s ≡ r) → says_of s ≡ tells vs fs due → s ≡ r
 told_decides a one e = one (e ∙ sym a.told)
 
--- ---- a distance has a float, and a refusal has none
+-- the refusal that has this number and this place
+abbrev pub refusal : ℕ → ℕ → Refusal
+refusal n p =
+    cond (eqb n 1) Dims
+    (cond (eqb n 2) Length
+    (cond (eqb n 3) (Order p)
+    (cond (eqb n 4) (Index p)
+    (cond (eqb n 5) (Zero p)
+    (cond (eqb n 6) (Padding p)
+    (cond (eqb n 7) Differ
+    (cond (eqb n 8) Bounds
+    (cond (eqb n 9) (Room p)
+    (cond (eqb n 10) (Need p)
+    (cond (eqb n 11) Count
+    (cond (eqb n 12) NotBegun
+    (cond (eqb n 13) State
+    NotNeeded))))))))))))
 
-distance_back : Says → Distance
-distance_back s = go s.floats
+-- done, or the refusal that is said
+abbrev pub done_or : {A : Type 0} → (Says → A) → Says → Result A Refusal
+done_or done s = cond (eqb s.number 0) (Ok (done s)) (Err (refusal s.number s.place))
+
+-- a refusal is read back, whatever is said beside it
+pub refused_back : {A : Type 0} (done : Says → A) (r : Refusal) (vs : List ℕ) → done_or done (refused r vs) ≡ Err r
+refused_back done Dims vs = refl
+refused_back done Length vs = refl
+refused_back done (Order p) vs = refl
+refused_back done (Index p) vs = refl
+refused_back done (Zero p) vs = refl
+refused_back done (Padding p) vs = refl
+refused_back done Differ vs = refl
+refused_back done Bounds vs = refl
+refused_back done (Room n) vs = refl
+refused_back done (Need n) vs = refl
+refused_back done Count vs = refl
+refused_back done NotBegun vs = refl
+refused_back done State vs = refl
+refused_back done NotNeeded vs = refl
+
+-- ---- each kind of answer
+
+pub checked_decided : (r s : Checked) → checked_says r ≡ checked_says s → r ≡ s
+checked_decided = decided checked_says (done_or (λ s. tt)) fair
   where
-    go : List Float → Distance
-    go [] = NoDistance s.number s.place
-    go (x ∷ xs) = Value x
+    fair : (r : Checked) → done_or (λ s. tt) (checked_says r) ≡ r
+    fair (Ok tt) = refl
+    fair (Err r) = refused_back (λ s. tt) r []
 
-distance_back_lem : (r : Distance) → distance_back (distance_says r) ≡ r
-unfolding distance_back
-distance_back_lem (Value x) = refl
-distance_back_lem (NoDistance n p) = refl
+abbrev float : Says → Float
+float s = get_or s.floats 0 nan
 
-pub distance_decided : (r s : Distance) → distance_says r ≡ distance_says s → r ≡ s
-distance_decided r s = decided distance_says distance_back (distance_back_lem r) (distance_back_lem s)
-
--- ---- an order has a case, and a refusal has 0
-
-abbrev order_back : Says → Ordering
-order_back s =
-    let v : ℕ = get_or s.values 0 0 in
-    cond (eqb v 1) Less (cond (eqb v 2) Equal (cond (eqb v 3) Greater (cond (eqb v 4) Unordered (NoOrder s.number s.place))))
-
-order_back_lem : (r : Ordering) → order_back (order_says r) ≡ r
-order_back_lem Less = refl
-order_back_lem Equal = refl
-order_back_lem Greater = refl
-order_back_lem Unordered = refl
-order_back_lem (NoOrder n p) = refl
-
-pub order_decided : (r s : Ordering) → order_says r ≡ order_says s → r ≡ s
-order_decided r s = decided order_says order_back (order_back_lem r) (order_back_lem s)
-
--- ---- the other kinds: a refusal has a number that is not 0
-
-abbrev pub Numbered : {A : Type 0} → (ℕ → ℕ → A) → A → Type 0
-Numbered refused r = (n p : ℕ) → r ≡ refused n p → n ≡ 0 → ⊥
-
--- done, or refused with the number and place that are said
-abbrev pub done_or : {A : Type 0} → (ℕ → ℕ → A) → (List ℕ → A) → Says → A
-done_or refused done s = cond (eqb s.number 0) (done s.values) (refused s.number s.place)
-
-pub checked_decided : (r s : Checked) → Numbered Refused r → Numbered Refused s → checked_says r ≡ checked_says s → r ≡ s
-checked_decided r s k l = decided checked_says back (fair r k) (fair s l)
+pub distance_decided : (r s : Result Float Refusal) → distance_says r ≡ distance_says s → r ≡ s
+distance_decided = decided distance_says (done_or float) fair
   where
-    back : Says → Checked
-    back = done_or Refused (λ vs. Valid)
+    fair : (r : Result Float Refusal) → done_or float (distance_says r) ≡ r
+    fair (Ok x) = refl
+    fair (Err r) = refused_back float r []
 
-    fair : (r : Checked) → Numbered Refused r → back (checked_says r) ≡ r
-    fair Valid k = refl
-    fair (Refused n p) k = rw (ne_eqb n 0 (k n p refl))
+abbrev value : Says → ℕ → ℕ
+value s k = get_or s.values k 0
 
-pub written_decided : (r s : Written) → Numbered NotWritten r → Numbered NotWritten s → written_says r ≡ written_says s → r ≡ s
-written_decided r s k l = decided written_says back (fair r k) (fair s l)
+abbrev wrote : Says → Written
+wrote s = written (value s 0) (value s 1)
+
+pub written_decided : (r s : Result Written Refusal) → written_says r ≡ written_says s → r ≡ s
+written_decided = decided written_says (done_or wrote) fair
   where
-    back : Says → Written
-    back = done_or NotWritten (λ vs. Done (get_or vs 0 0) (get_or vs 1 0))
+    fair : (r : Result Written Refusal) → done_or wrote (written_says r) ≡ r
+    fair (Ok w) = refl
+    fair (Err r) = refused_back wrote r (0 ∷ 0 ∷ [])
 
-    fair : (r : Written) → Numbered NotWritten r → back (written_says r) ≡ r
-    fair (Done d len) k = refl
-    fair (NotWritten n p) k = rw (ne_eqb n 0 (k n p refl))
+abbrev joined : Says → Merged
+joined s = record { dims = value s 0; len = value s 1; turns = value s 2 }
 
-pub merged_decided : (r s : Merged) → Numbered NotMerged r → Numbered NotMerged s → merged_says r ≡ merged_says s → r ≡ s
-merged_decided r s k l = decided merged_says back (fair r k) (fair s l)
+pub merged_decided : (r s : Result Merged Refusal) → merged_says r ≡ merged_says s → r ≡ s
+merged_decided = decided merged_says (done_or joined) fair
   where
-    back : Says → Merged
-    back = done_or NotMerged (λ vs. Joined (get_or vs 0 0) (get_or vs 1 0) (get_or vs 2 0))
+    fair : (r : Result Merged Refusal) → done_or joined (merged_says r) ≡ r
+    fair (Ok m) = refl
+    fair (Err r) = refused_back joined r (0 ∷ 0 ∷ 0 ∷ [])
 
-    fair : (r : Merged) → Numbered NotMerged r → back (merged_says r) ≡ r
-    fair (Joined d len turns) k = refl
-    fair (NotMerged n p) k = rw (ne_eqb n 0 (k n p refl))
+abbrev yes : Says → Bool
+yes s = eqb (value s 0) 1
 
-pub asked_decided : (r s : Asked) → Numbered NotAsked r → Numbered NotAsked s → asked_says r ≡ asked_says s → r ≡ s
-asked_decided r s k l = decided asked_says back (fair r k) (fair s l)
+pub asked_decided : (r s : Result Bool Refusal) → asked_says r ≡ asked_says s → r ≡ s
+asked_decided = decided asked_says (done_or yes) fair
   where
-    back : Says → Asked
-    back = done_or NotAsked (λ vs. cond (eqb (get_or vs 0 0) 1) Yes No)
+    fair : (r : Result Bool Refusal) → done_or yes (asked_says r) ≡ r
+    fair (Ok true) = refl
+    fair (Ok false) = refl
+    fair (Err r) = refused_back yes r (0 ∷ [])
 
-    fair : (r : Asked) → Numbered NotAsked r → back (asked_says r) ≡ r
-    fair Yes k = refl
-    fair No k = refl
-    fair (NotAsked n p) k = rw (ne_eqb n 0 (k n p refl))
+abbrev order : Says → Option Ordering
+order s = let v : ℕ = value s 0 in cond (eqb v 1) (Some Less) (cond (eqb v 2) (Some Equal) (cond (eqb v 3) (Some Greater) None))
+
+pub order_decided : (r s : Result (Option Ordering) Refusal) → order_says r ≡ order_says s → r ≡ s
+order_decided = decided order_says (done_or order) fair
+  where
+    fair : (r : Result (Option Ordering) Refusal) → done_or order (order_says r) ≡ r
+    fair (Ok (Some Less)) = refl
+    fair (Ok (Some Equal)) = refl
+    fair (Ok (Some Greater)) = refl
+    fair (Ok None) = refl
+    fair (Err r) = refused_back order r (0 ∷ [])

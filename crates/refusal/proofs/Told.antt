@@ -1,96 +1,91 @@
 -- An answer that is the due one says the number and place of what the tests found: one law for each kind of answer. Assumes nothing.
-use Prim.Native.Nat.{ℕ}
-use native.Mathlib.Omega.{arith}
-use mathlib.Core.Bool.{Bool, true, false, cond}
-use mathlib.Core.List.{List, [], ◌∷◌, ◌++◌}
-use mathlib.Core.Path.{◌≡◌, refl, sym, ap, ◌∙◌}
-use lib.ListN.{length, drop}
-use lib.Ieee.{Float}
-use Rattle.refusal.specs.Answers.{Says, says, tells, Answers, Checks, Measures, Asks, Orders, Writes, leaves}
-use Rattle.refusal.specs.Answers.{same, checked_says, distance_says, distance_of, written_says, written_of, merged_says, merged_of, asked_says, asked_of, order_number, order_says, order_of}
-use Rattle.refusal.specs.declared.Checked.{Checked}
-use Rattle.refusal.specs.declared.Checked.TheVariants.{Valid, Refused}
-use Rattle.refusal.specs.declared.Distance.{Distance}
-use Rattle.refusal.specs.declared.Distance.TheVariants.{Value, Refused as NoDistance}
+use Rattle.std.proofs.Common.{◌≡◌, ℕ, Bool, List, [], ◌∷◌, ◌++◌, Float, Option, Result, Ok, Err, length, drop, refl, sym, ap, ◌∙◌}
+use Rattle.std.specs.declared.cmp.Ordering.{Ordering}
+use Rattle.refusal.specs.Answers.{Checked, Valid, Says, tells, answer, Answers, Checks, Measures, Asks, Orders, Wrote, Writes, leaves, written}
+use Rattle.refusal.specs.Answers.{checked_says, distance_says, written_says, merged_says, asked_says, yes_number, order_number, order_says}
+use Rattle.refusal.specs.declared.Refusal.{Refusal}
 use Rattle.refusal.specs.declared.Written.{Written}
-use Rattle.refusal.specs.declared.Written.TheVariants.{Done, Refused as NotWritten}
 use Rattle.refusal.specs.declared.Merged.{Merged}
-use Rattle.refusal.specs.declared.Asked.{Asked}
-use Rattle.refusal.specs.declared.Ordering.{Ordering}
 
 -- any kind of answer whose refusals say what they were given
-pub answered : {A : Type 0} (says_of : A → Says) (said : Checked → Says) (give : Checked → A) → ((due : Checked) → says_of (give due) ≡ said due)
-    → {due : Checked} {r : A} → r ≡ give due → Answers says_of said give due r
-answered says_of said give fair {due} e = record { told = ap says_of e ∙ fair due; answer = e }
+pub answered : {A : Type 0} (says_of : Result A Refusal → Says) (vs : List ℕ) (fs : List Float) (x : A)
+    → ((due : Checked) → says_of (answer x due) ≡ tells vs fs due) → {due : Checked} {r : Result A Refusal} → r ≡ answer x due
+    → Answers says_of vs fs x due r
+answered says_of vs fs x fair {due} e = record { told = ap says_of e ∙ fair due; answer = e }
 
-checked_fair : (due : Checked) → checked_says due ≡ tells [] [] due
-checked_fair Valid = refl
-checked_fair (Refused n p) = refl
+checked_fair : (due : Checked) → checked_says (answer tt due) ≡ tells [] [] due
+checked_fair (Ok tt) = refl
+checked_fair (Err r) = refl
+
+-- a check answers what the tests found
+answer_check : (due : Checked) → due ≡ answer tt due
+answer_check (Ok tt) = refl
+answer_check (Err r) = refl
 
 pub checked_answer : {due r : Checked} → r ≡ due → Checks due r
-checked_answer e = answered checked_says (tells [] []) same checked_fair e
+checked_answer {due} e = answered checked_says [] [] tt checked_fair (e ∙ answer_check due)
 
-distance_fair : (x : Float) (due : Checked) → distance_says (distance_of x due) ≡ tells [] (x ∷ []) due
-distance_fair x Valid = refl
-distance_fair x (Refused n p) = refl
+pub checked_told : {due r : Checked} → Checks due r → r ≡ due
+checked_told {due} c = c.answer ∙ sym (answer_check due)
 
-pub distance_answer : (x : Float) {due : Checked} {r : Distance} → r ≡ distance_of x due → Measures x due r
-distance_answer x e = answered distance_says (tells [] (x ∷ [])) (distance_of x) (distance_fair x) e
+distance_fair : (x : Float) (due : Checked) → distance_says (answer x due) ≡ tells [] (x ∷ []) due
+distance_fair x (Ok tt) = refl
+distance_fair x (Err r) = refl
 
--- and back: what a distance tells of the tests
-pub value_told : (x y : Float) (due : Checked) → distance_of x due ≡ Value y → (due ≡ Valid) × (y ≡ x)
-value_told x y Valid e = let same : y ≡ x = cc in (refl, same)
-value_told x y (Refused n p) e = let z : ◌≡◌ {A = ℕ} 0 1 = cc in absurd (omega arith)
+pub distance_answer : (x : Float) {due : Checked} {r : Result Float Refusal} → r ≡ answer x due → Measures x due r
+distance_answer x e = answered distance_says [] (x ∷ []) x (distance_fair x) e
 
-pub refusal_told : (x : Float) (due : Checked) (n p : ℕ) → distance_of x due ≡ NoDistance n p → due ≡ Refused n p
-refusal_told x Valid n p e = let z : ◌≡◌ {A = ℕ} 0 1 = cc in absurd (omega arith)
-refusal_told x (Refused m q) n p e = let a : m ≡ n = cc in let b : q ≡ p = cc in rw (a, b)
+-- and back: what an answer tells of the tests
+pub value_told : {A : Type 0} (x y : A) (due : Checked) → answer x due ≡ Ok y → (due ≡ Valid) × (y ≡ x)
+value_told x y (Ok tt) e = (refl, cc)
+value_told x y (Err r) e = absurd cc
 
-written_fair : (d len : ℕ) (due : Checked) → written_says (written_of d len due) ≡ tells (d ∷ len ∷ []) [] due
-written_fair d len Valid = refl
-written_fair d len (Refused n p) = refl
+pub refusal_told : {A : Type 0} (x : A) (due : Checked) (r : Refusal) → answer x due ≡ Err r → due ≡ Err r
+refusal_told x (Ok tt) r e = absurd cc
+refusal_told x (Err s) r e = let f : s ≡ r = cc in ap Err f
 
-pub written_answer : (d len : ℕ) {due : Checked} {r : Written} → r ≡ written_of d len due → Answers written_says (tells (d ∷ len ∷ []) []) (written_of d len) due r
-written_answer d len e = answered written_says (tells (d ∷ len ∷ []) []) (written_of d len) (written_fair d len) e
+written_fair : (d len : ℕ) (due : Checked) → written_says (answer (written d len) due) ≡ tells (d ∷ len ∷ []) [] due
+written_fair d len (Ok tt) = refl
+written_fair d len (Err r) = refl
 
-merged_fair : (d len turns : ℕ) (due : Checked) → merged_says (merged_of d len turns due) ≡ tells (d ∷ len ∷ turns ∷ []) [] due
-merged_fair d len turns Valid = refl
-merged_fair d len turns (Refused n p) = refl
+pub written_answer : (d len : ℕ) {due : Checked} {r : Result Written Refusal} → r ≡ answer (written d len) due → Wrote d len due r
+written_answer d len e = answered written_says (d ∷ len ∷ []) [] (written d len) (written_fair d len) e
 
-pub merged_answer : (d len turns : ℕ) {due : Checked} {r : Merged} → r ≡ merged_of d len turns due
-    → Answers merged_says (tells (d ∷ len ∷ turns ∷ []) []) (merged_of d len turns) due r
-merged_answer d len turns e = answered merged_says (tells (d ∷ len ∷ turns ∷ []) []) (merged_of d len turns) (merged_fair d len turns) e
+merged_fair : (m : Merged) (due : Checked) → merged_says (answer m due) ≡ tells (m.dims ∷ m.len ∷ m.turns ∷ []) [] due
+merged_fair m (Ok tt) = refl
+merged_fair m (Err r) = refl
 
-asked_fair : (b : Bool) (due : Checked) → asked_says (asked_of b due) ≡ tells (cond b 1 0 ∷ []) [] due
-asked_fair true Valid = refl
-asked_fair false Valid = refl
-asked_fair b (Refused n p) = refl
+pub merged_answer : (m : Merged) {due : Checked} {r : Result Merged Refusal} → r ≡ answer m due
+    → Answers merged_says (m.dims ∷ m.len ∷ m.turns ∷ []) [] m due r
+merged_answer m e = answered merged_says (m.dims ∷ m.len ∷ m.turns ∷ []) [] m (merged_fair m) e
 
-pub asked_answer : (b : Bool) {due : Checked} {r : Asked} → r ≡ asked_of b due → Asks b due r
-asked_answer b e = answered asked_says (tells (cond b 1 0 ∷ []) []) (asked_of b) (asked_fair b) e
+asked_fair : (b : Bool) (due : Checked) → asked_says (answer b due) ≡ tells (yes_number b ∷ []) [] due
+asked_fair b (Ok tt) = refl
+asked_fair b (Err r) = refl
 
--- an order that is no refusal itself
-abbrev pub IsOrder : Ordering → Type 0
-IsOrder o = order_says o ≡ says 0 0 (order_number o ∷ [])
+pub asked_answer : (b : Bool) {due : Checked} {r : Result Bool Refusal} → r ≡ answer b due → Asks b due r
+asked_answer b e = answered asked_says (yes_number b ∷ []) [] b (asked_fair b) e
 
-order_fair : (o : Ordering) → IsOrder o → (due : Checked) → order_says (order_of o due) ≡ tells (order_number o ∷ []) [] due
-order_fair o done Valid = done
-order_fair o done (Refused n p) = refl
+order_fair : (o : Option Ordering) (due : Checked) → order_says (answer o due) ≡ tells (order_number o ∷ []) [] due
+order_fair o (Ok tt) = refl
+order_fair o (Err r) = refl
 
-pub order_answer : (o : Ordering) → IsOrder o → {due : Checked} {r : Ordering} → r ≡ order_of o due → Orders o due r
-order_answer o done e = answered order_says (tells (order_number o ∷ []) []) (order_of o) (order_fair o done) e
+pub order_answer : (o : Option Ordering) {due : Checked} {r : Result (Option Ordering) Refusal} → r ≡ answer o due → Orders o due r
+order_answer o e = answered order_says (order_number o ∷ []) [] o (order_fair o) e
 
 -- ---- calls that write
 
-pub refused_writes : (d : ℕ) (new : List ℕ) {due : Checked} {old : List ℕ} {n p : ℕ} → due ≡ Refused n p
-    → Writes due d new old (NotWritten n p) old
+pub refused_writes : (d : ℕ) (new : List ℕ) {due : Checked} {old : List ℕ} {r : Refusal} → due ≡ Err r → Writes due d new old (Err r) old
 refused_writes d new {due} {old} e =
-    record { answer = written_answer d (length new) (ap (written_of d (length new)) (sym e)); output = ap (λ (c : Checked). leaves c new old) (sym e) }
+    record {
+      answer = written_answer d (length new) (ap (answer (written d (length new))) (sym e));
+      output = ap (λ (c : Checked). leaves c new old) (sym e);
+    }
 
 pub done_writes : (d : ℕ) (new : List ℕ) {due : Checked} {old left : List ℕ} {len : ℕ} → due ≡ Valid → len ≡ length new
-    → left ≡ new ++ drop len old → Writes due d new old (Done d len) left
+    → left ≡ new ++ drop len old → Writes due d new old (Ok (written d len)) left
 done_writes d new {due} {old} {left} e size front =
     record {
-      answer = written_answer d (length new) (ap (Done d) size ∙ ap (written_of d (length new)) (sym e));
+      answer = written_answer d (length new) (ap (λ (n : ℕ). Ok (written d n)) size ∙ ap (answer (written d (length new))) (sym e));
       output = front ∙ ap (λ (n : ℕ). new ++ drop n old) size ∙ ap (λ (c : Checked). leaves c new old) (sym e);
     }

@@ -1,63 +1,52 @@
--- Document 01, "Numbers a call can answer": each number by its name, with "given exactly when" and the place it carries.
--- Places of entries and words count from 0.
+-- Document 01, "Numbers a call can answer": each refusal's number, "given exactly when", and the place it carries.
+-- Places of entries and words count from 0. 0 is done: none of the others holds.
 use Rattle.std.specs.Prelude.{ℕ}
+use Rattle.refusal.specs.declared.Refusal.{Refusal}
+use Rattle.refusal.specs.declared.Refusal.TheVariants.{Dims, Length, Order, Index, Zero, Padding, Differ, Bounds, Room, Need, Count, NotBegun, State, NotNeeded}
 
--- none of the others holds: place 0
-abbrev pub DONE : ℕ
-DONE = 0
-
+abbrev pub number_of : Refusal → ℕ
 -- dims out of range, or a move's length above dims: place 0
-abbrev pub DIMS : ℕ
-DIMS = 1
-
+number_of Dims = 1
 -- list lengths differ, or the word count is wrong: place 0
-abbrev pub LENGTH : ℕ
-LENGTH = 2
-
+number_of Length = 2
 -- indexes not strictly increasing: the later entry of the first bad pair
-abbrev pub ORDER : ℕ
-ORDER = 3
-
+number_of (Order p) = 3
 -- last index at or above dims; `get` beyond dims: the last entry; the index asked
-abbrev pub INDEX : ℕ
-INDEX = 4
-
+number_of (Index p) = 4
 -- a zero value: the first such entry
-abbrev pub ZERO : ℕ
-ZERO = 5
-
+number_of (Zero p) = 5
 -- a padding bit is set: the last word
-abbrev pub PADDING : ℕ
-PADDING = 6
-
+number_of (Padding p) = 6
 -- the two dims differ, save in order and equality: place 0
-abbrev pub DIFFER : ℕ
-DIFFER = 7
-
+number_of Differ = 7
 -- a slice's bounds are bad: place 0
-abbrev pub BOUNDS : ℕ
-BOUNDS = 8
-
+number_of Bounds = 8
 -- output or region too short; region not inside its lists: entries needed (for a region, the capacity); the region length
-abbrev pub ROOM : ℕ
-ROOM = 9
-
+number_of (Room n) = 9
 -- the aggregate must grow: the capacity wanted
-abbrev pub NEED : ℕ
-NEED = 10
-
+number_of (Need n) = 10
 -- the count would pass 16,777,216, and since request #109 18,446,744,073,709,551,615: place 0
-abbrev pub COUNT : ℕ
-COUNT = 11
-
+number_of Count = 11
 -- finishing or moving a state without rows: place 0
-abbrev pub NOT_BEGUN : ℕ
-NOT_BEGUN = 12
-
+number_of NotBegun = 12
 -- a header or its stored entries are inconsistent: place 0
-abbrev pub STATE : ℕ
-STATE = 13
-
+number_of State = 13
 -- a move for n where capacity is dims, or capacity - len is at least n: place 0
-abbrev pub NOT_NEEDED : ℕ
-NOT_NEEDED = 14
+number_of NotNeeded = 14
+
+-- the place, or the length, that it carries
+abbrev pub place_of : Refusal → ℕ
+place_of Dims = 0
+place_of Length = 0
+place_of (Order p) = p
+place_of (Index p) = p
+place_of (Zero p) = p
+place_of (Padding p) = p
+place_of Differ = 0
+place_of Bounds = 0
+place_of (Room n) = n
+place_of (Need n) = n
+place_of Count = 0
+place_of NotBegun = 0
+place_of State = 0
+place_of NotNeeded = 0

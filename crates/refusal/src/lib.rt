@@ -1,105 +1,86 @@
-// The numbers that a call can refuse with, the answers that several crates share, and the bounds of
-// a slice. An answer is an enum; specs/Answers.antt says which number and place each case stands for.
+// Why a call refuses, what several calls answer, and the bounds of a slice. specs/Numbers.antt has the number of each
+// refusal, and specs/Answers.antt what each answer says in numbers.
 #![tactic(auto)]
 
 ghost use Rattle.std.specs.Prelude.{◌≡◌};
+ghost use Rattle.refusal.specs.Numbers.{number_of, place_of};
 ghost use Rattle.refusal.specs.Bounds.{start_of, end_of, span_of};
 
-// When each is given, and the place it carries, is said in specs/Numbers.antt.
-pub const DONE: u32 = 0;
+use std::ops::{Bound, Range};
 
-pub const DIMS: u32 = 1;
-
-pub const LENGTH: u32 = 2;
-
-pub const ORDER: u32 = 3;
-
-pub const INDEX: u32 = 4;
-
-pub const ZERO: u32 = 5;
-
-pub const PADDING: u32 = 6;
-
-pub const DIFFER: u32 = 7;
-
-pub const BOUNDS: u32 = 8;
-
-pub const ROOM: u32 = 9;
-
-pub const NEED: u32 = 10;
-
-pub const COUNT: u32 = 11;
-
-pub const NOT_BEGUN: u32 = 12;
-
-pub const STATE: u32 = 13;
-
-pub const NOT_NEEDED: u32 = 14;
-
-// What tests find: nothing to refuse, or the first refusal that applies, with the place it carries.
-#[derive(Drop)]
-pub enum Checked {
-    Valid,
-    Refused(u32, usize),
+// Why a call refuses, with the place that it carries. When each is given is said in specs/Numbers.antt.
+#[derive(Clone, Copy, PartialEq, Eq)]
+pub enum Refusal {
+    Dims,
+    Length,
+    Order(usize),
+    Index(usize),
+    Zero(usize),
+    Padding(usize),
+    Differ,
+    Bounds,
+    Room(usize),
+    Need(usize),
+    Count,
+    NotBegun,
+    State,
+    NotNeeded,
 }
 
-// A distance is a float or a refusal, never both.
-#[derive(Drop)]
-pub enum Distance {
-    Value(f32),
-    Refused(u32, usize),
+impl Refusal {
+    // Its number, from 1 to 14. 0 is no refusal.
+    pub fn number(self) -> u32
+        ensures { result ≡ number_of self }
+    {
+        match self {
+            Refusal::Dims => 1,
+            Refusal::Length => 2,
+            Refusal::Order(_) => 3,
+            Refusal::Index(_) => 4,
+            Refusal::Zero(_) => 5,
+            Refusal::Padding(_) => 6,
+            Refusal::Differ => 7,
+            Refusal::Bounds => 8,
+            Refusal::Room(_) => 9,
+            Refusal::Need(_) => 10,
+            Refusal::Count => 11,
+            Refusal::NotBegun => 12,
+            Refusal::State => 13,
+            Refusal::NotNeeded => 14,
+        }
+    }
+
+    // The place that it carries, or 0.
+    pub fn place(self) -> usize
+        ensures { result ≡ place_of self }
+    {
+        match self {
+            Refusal::Order(at) | Refusal::Index(at) | Refusal::Zero(at) | Refusal::Padding(at) =>
+                at,
+            Refusal::Room(n) | Refusal::Need(n) => n,
+            _ => 0,
+        }
+    }
 }
 
 // A vector was written to a lent output: its dims, and how many entries or words it has.
-#[derive(Drop)]
-pub enum Written {
-    Done(u32, usize),
-    Refused(u32, usize),
+#[derive(Clone, Copy, PartialEq, Eq)]
+pub struct Written {
+    pub dims: u32,
+    pub len: usize,
 }
 
 // Two vectors were put together in a lent output: the dims and the entries of the answer, and the turns
 // that the walk over both took.
-#[derive(Drop)]
-pub enum Merged {
-    Done(u32, usize, usize),
-    Refused(u32, usize),
-}
-
-// A question with two answers.
-#[derive(Drop)]
-pub enum Asked {
-    Yes,
-    No,
-    Refused(u32, usize),
-}
-
-// How two vectors compare. Unordered: they have no order.
-#[derive(Drop)]
-pub enum Ordering {
-    Less,
-    Equal,
-    Greater,
-    Unordered,
-    Refused(u32, usize),
-}
-
-// One end of a slice.
-#[derive(Drop)]
-pub enum Bound {
-    Included(u32),
-    Excluded(u32),
-    Unbounded,
-}
-
-// What two bounds mean: the places from a start up to an end, or nothing that can be cut.
-#[derive(Drop)]
-pub enum Span {
-    Of(u32, u32),
-    Bad,
+#[derive(Clone, Copy, PartialEq, Eq)]
+pub struct Merged {
+    pub dims: u32,
+    pub len: usize,
+    pub turns: usize,
 }
 
 // Where a slice starts, and where it ends. One past the largest u32 is a number here too.
-fn start_of(from: Bound) -> u64
+fn start_of(from: Bound<u32>) -> u64
     ensures { result ≡ start_of from }
 {
     match from {
@@ -109,7 +90,7 @@ fn start_of(from: Bound) -> u64
     }
 }
 
-fn end_of(to: Bound, dims: u32) -> u64
+fn end_of(to: Bound<u32>, dims: u32) -> u64
     ensures { result ≡ end_of dims to }
 {
     match to {
@@ -119,17 +100,17 @@ fn end_of(to: Bound, dims: u32) -> u64
     }
 }
 
-// The places that the bounds `from` and `to` name in a vector of `dims` places.
-pub fn span_of(from: Bound, to: Bound, dims: u32) -> Span
+// The places that the bounds `from` and `to` name in a vector of `dims` places, if they name any and all are there.
+pub fn span_of(from: Bound<u32>, to: Bound<u32>, dims: u32) -> Option<Range<u32>>
     ensures { result ≡ span_of from to dims }
 {
     let start = start_of(from);
     let end = end_of(to, dims);
     if end <= start {
-        return Span::Bad;
+        return None;
     }
     if end > dims as u64 {
-        return Span::Bad;
+        return None;
     }
-    Span::Of(start as u32, end as u32)
+    Some(start as u32..end as u32)
 }

@@ -1,11 +1,10 @@
 -- The laws of the exponent and of the capacity. Assumes nothing.
-use Prim.Native.Nat.{ℕ, zero, suc, ◌+◌, ◌-◌, ◌^◌, min, ◌≤◌, ◌<◌}
+use Prim.Native.Nat.{ℕ, zero, suc, ◌+◌, ◌/◌, ◌^◌, min, max, ◌≤◌, ◌<◌}
 use native.Mathlib.Nat.{pow-le-pow_right, pow-suc}
 use native.Mathlib.Omega.{arith}
 use mathlib.Core.Bool.{Bool, true, false, cond}
 use mathlib.Core.Logic.{◌⊎◌, inl, inr, ⊎_elim}
 use mathlib.Core.Path.{◌≡◌, sym}
-use lib.Count.{count_leading_zeros, leading_top}
 use lib.Dec.{leb}
 use borrow.Author.Tests.{leb-true, leb-false, eq-eqb, eqb-true}
 use Rattle.places.specs.Search.{first_from}
@@ -54,23 +53,27 @@ exponent_least n k lo h =
     (λ l. let e : leb n (2 ^ k) ≡ false = before (λ i. leb n (2 ^ i)) n 4 k lo l in absurd (omega (arith, leb-false n (2 ^ k) e)))
     (le_or_lt (exponent n) k)
 
--- so it is what lies between two powers
-pub exponent_is : (n j : ℕ) → 4 ≤ suc j → 2 ^ j < n → n ≤ 2 ^ suc j → exponent n ≡ suc j
-exponent_is n j lo a b =
+-- so the next power of two is its power, from 16 on
+pub power_least : (n k p : ℕ) → p ≡ 2 ^ k → max n 16 ≤ p → p / 2 < max 1 (max n 16) → p ≡ 2 ^ exponent n
+power_least n k p e low high =
+    let some : 4 ≤ k = ⊎_elim (λ l. l) (λ l. absurd (omega (arith, power_le k 3 (omega arith)))) (le_or_lt 4 k) in
+    let least : exponent n ≤ k = exponent_least n k some (omega arith) in
+    let last : k ≤ exponent n =
     ⊎_elim
-    (λ l. omega (arith, exponent_least n (suc j) lo b))
-    (λ l. absurd (omega (arith, exponent_enough n, power_le (exponent n) j (omega arith))))
-    (le_or_lt (suc j) (exponent n))
-
-pub exponent_small : (n : ℕ) → n ≤ 16 → exponent n ≡ 4
-exponent_small n h = omega (arith, exponent_from n, exponent_least n 4 (omega arith) (omega arith))
-
--- and the length of n - 1 in digits
-pub exponent_digits : (n : ℕ) → 16 < n → n - 1 < 2 ^ 64 → count_leading_zeros 64 (n - 1) + exponent n ≡ 64
-exponent_digits n h l =
-    let t = leading_top 64 (n - 1) (omega arith) l in
-    let lo : 4 ≤ suc t.0 = ⊎_elim (λ g. g) (λ g. absurd (omega (arith, t.3, power_le (suc t.0) 4 (omega arith)))) (le_or_lt 4 (suc t.0)) in
-    rw (exponent_is n t.0 lo (omega (arith, t.2)) (omega (arith, t.3))) t.1
+    (λ l. l)
+    (λ l.
+    absurd
+    (omega (
+      arith,
+      exponent_enough n,
+      power_le 4 (exponent n) (exponent_from n),
+      power_le (suc (exponent n)) k l,
+      pow-suc 2 (exponent n),
+    )))
+    (le_or_lt k (exponent n))
+    in
+    let same : k ≡ exponent n = omega arith in
+    rw same at e
 
 -- ---- the capacity
 

@@ -6,7 +6,8 @@ use mathlib.Core.Bool.{true}
 use mathlib.Core.List.{List, [], ◌++◌}
 use mathlib.Core.Path.{◌≡◌, refl, sym, ap, ap₂, ◌∙◌}
 use lib.Dec.{leb}
-use lib.ListN.{length, take, drop, length-append, length-take, length-drop, take-append-drop}
+use lib.ListN.{length, take, drop, length-append, length-take, length-drop, take-append-drop, drop_of_length-le}
+use Rattle.std.proofs.lemmas.List.{append-nil}
 use lib.Seq.{length-take-le, take-append-le, drop-append-le, drop-append-add, take_at, drop_at, take-add, drop-drop}
 use borrow.Author.Tests.{leb-true, le-leb}
 use Rattle.places.proofs.Below.{and_true}
@@ -74,12 +75,13 @@ module _ {ℓ} {A : Type ℓ} where
 
   -- n entries that are copied to n places that were lent stand in the whole list
   pub copied_lent : (from n start k j : ℕ) (xs l : List A) {ys : List A} → from + n ≤ length xs → start + n ≤ length l → k ≡ n → j ≡ n
-      → ys ≡ part from k xs ++ drop (length (part from k xs)) (part start j l) → Stands start n (part from n xs) l (lent start j l ys)
+      → ys ≡ part from k xs → Stands start n (part from n xs) l (lent start j l ys)
   copied_lent from n start k j xs l {ys} there fits e f c =
       let m : length (part from n xs) ≡ n = part_length from n xs there in
-      let d : ys ≡ part from n xs ++ drop n (part start n l) = rw (e, f, m) at c in
-      let h : n ≤ length (part start n l) = omega (arith, part_length start n l fits) in
-      rw f (stands_lent fits (omega arith) (omega (arith, m)) (stands_front (part from n xs) (part start n l) ys n n d m (omega arith) h))
+      let h : length (part start n l) ≡ n = part_length start n l fits in
+      let none : drop n (part start n l) ≡ [] = drop_of_length-le (part start n l) {i = n} (omega arith) in
+      let d : ys ≡ part from n xs ++ drop n (part start n l) = rw e at c ∙ rw none (sym (append-nil (part from n xs))) in
+      rw f (stands_lent fits (omega arith) (omega arith) (stands_front (part from n xs) (part start n l) ys n n d m (omega arith) (omega arith)))
 
   -- what stands in front of a list, and fills its room, is followed by what is left of it
   pub front_stands : {n : ℕ} {xs old new : List A} → length xs ≡ n → Stands 0 n xs old new → new ≡ xs ++ drop n old

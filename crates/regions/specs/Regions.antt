@@ -1,5 +1,6 @@
 -- Document 01, "Aggregate states": "a region that may start anywhere in the lent pair of lists (u32 indexes, f32 values)".
 use Rattle.std.specs.Prelude.{ℕ, ◌+◌, ◌≤◌, ◌<◌, Bool, ◌&&◌, List, ◌≡◌, leb, length, take, drop, Float}
+use Rattle.regions.specs.declared.Lists.{Lists}
 
 -- a pair of lent lists
 pub record Pair : Type 0 where
@@ -8,6 +9,10 @@ pub record Pair : Type 0 where
 
 abbrev pub pair : List ℕ → List Float → Pair
 pair is vs = record { indexes = is; values = vs }
+
+-- such lists as they are lent to be read
+abbrev pub both : Lists → Pair
+both l = pair l.indexes.now l.values.now
 
 -- the n entries from `start` on
 abbrev pub part {ℓ} : {A : Type ℓ} → ℕ → ℕ → List A → List A

@@ -3,13 +3,22 @@
 
 #![tactic(auto)]
 
-ghost use Rattle.std.specs.Prelude.{◌≡◌, ◌++◌, ◌+◌, ◌≤◌, leb, length, drop};
+ghost use Rattle.std.specs.Prelude.{◌≡◌, ◌+◌, ◌≤◌, leb, length};
+ghost use Rattle.sparse.specs.Vectors.{vector, seen};
 ghost use Rattle.regions.specs.Capacity.{capacity_for};
-ghost use Rattle.regions.specs.Regions.{pair, within};
+ghost use Rattle.regions.specs.Regions.{Pair, pair, both, part, within};
 ghost use Rattle.regions.specs.Loops.{Fitting, Copied};
 
-// The capacity for n entries in a vector of `dims` places: the leading zeros of n - 1 give the power of
-// two. From n = dims on it is dims.
+use sparse::SVectBorrowed;
+
+// A pair of lists that is lent to be read. Of their lengths nothing is known.
+#[derive(Clone, Copy)]
+pub struct Lists<'a> {
+    pub indexes: &'a [u32],
+    pub values: &'a [f32],
+}
+
+// The capacity for n entries in a vector of `dims` places. From n = dims on it is dims.
 pub fn capacity(dims: u32, n: usize) -> usize
     ensures { result ≡ capacity_for dims n }
 {
@@ -17,11 +26,8 @@ pub fn capacity(dims: u32, n: usize) -> usize
     if most <= n {
         return most;
     }
-    if n <= 16 {
-        return walks::smaller(16, most);
-    }
-    let power = 1usize << (64 - u64::leading_zeros((n - 1) as u64));
-    walks::smaller(power, most)
+    let power = n.max(16).next_power_of_two();
+    power.min(most)
 }
 
 // Whether n places from `start` on lie inside a list. Start and n together may pass the largest usize.
@@ -41,47 +47,28 @@ pub fn lies_inside(start: usize, n: usize, indexes: usize, values: usize) -> boo
     reaches(start, n, indexes) && reaches(start, n, values)
 }
 
-// Copies a list of indexes to the front of another. Each list is copied by a walk of its own, which is faster than one
-// walk over both.
-fn copy_indexes(from: &[u32], to: &mut [u32])
-    requires { length from.now ≤ length to.old }
-    ensures { to.new ≡ from.now ++ drop (length from.now) to.old }
-{
-    let mut j: usize = 0;
-    while j < from.len() {
-        to[j] = from[j];
-        j += 1;
+impl<'a> Lists<'a> {
+    // The n entries from `start` on, as a vector of `dims` places.
+    pub fn vector(self, dims: u32, start: usize, n: usize) -> SVectBorrowed<'a>
+        requires indexes { start + n ≤ length self.indexes.now }
+        requires values { start + n ≤ length self.values.now }
+        ensures { seen result ≡ vector dims (part start n (both self.entry).indexes) (part start n (both self.entry).values) }
+    {
+        let end = start + n;
+        SVectBorrowed {
+            dims,
+            indexes: &self.indexes[start..end],
+            values: &self.values[start..end],
+        }
     }
 }
 
-// Copies a list of values.
-fn copy_values(from: &[f32], to: &mut [f32])
-    requires { length from.now ≤ length to.old }
-    ensures { to.new ≡ from.now ++ drop (length from.now) to.old }
+// Copies the n entries from `from` on of a pair of lists to the places from `to` on of another. Each list is copied on its
+// own, which is faster than one walk over both. For the crates above, not for users.
+pub fn copy(lists: Lists<'_>, from: usize, n: usize, ci: &mut [u32], cv: &mut [f32], to: usize)
+    requires { Fitting from n (both lists) to (pair ci.old cv.old) }
+    ensures { Copied from n (both lists.entry) to (pair ci.old cv.old) (pair ci.new cv.new) }
 {
-    let mut k: usize = 0;
-    while k < from.len() {
-        to[k] = from[k];
-        k += 1;
-    }
-}
-
-// Copies the n entries from `from` on of a pair of lists to the places from `to` on of another. For the
-// crates above, not for users.
-pub fn copy(
-    ai: &[u32],
-    av: &[f32],
-    from: usize,
-    n: usize,
-    ci: &mut [u32],
-    cv: &mut [f32],
-    to: usize,
-)
-    requires { Fitting from n (pair ai.now av.now) to (pair ci.old cv.old) }
-    ensures { Copied from n (pair ai.now av.now) to (pair ci.old cv.old) (pair ci.new cv.new) }
-{
-    let end = from + n;
-    let new_end = to + n;
-    copy_indexes(&ai[from..end], &mut ci[to..new_end]);
-    copy_values(&av[from..end], &mut cv[to..new_end]);
+    ci[to..to + n].copy_from_slice(&lists.indexes[from..from + n]);
+    cv[to..to + n].copy_from_slice(&lists.values[from..from + n]);
 }

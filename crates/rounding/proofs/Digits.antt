@@ -1,13 +1,12 @@
 -- How many binary digits a number has, what is kept of one where all but its first 24 are dropped, and that a whole number's float is made
 -- of what is kept. Assumes nothing.
-use Prim.Native.Nat.{ℕ, suc, ◌+◌, ◌-◌, ◌*◌, ◌%◌, ◌^◌, ◌≤◌, ◌<◌}
+use Prim.Native.Nat.{ℕ, suc, ◌+◌, ◌-◌, ◌*◌, ◌^◌, ◌≤◌, ◌<◌}
 use native.Mathlib.Nat.{le_trans, lt_of_lt_of_le, lt_of_not-le, not-le_of_lt}
-use native.Mathlib.Nat.{mul-le-mul_right, mul_assoc, one-mul, le-div_iff_mul-le, mod-eq_of_lt, div-one}
+use native.Mathlib.Nat.{mul-le-mul_right, mul_assoc, one-mul, le-div_iff_mul-le, div-one}
 use native.Mathlib.Omega.{arith}
 use mathlib.Core.Bool.{false}
-use mathlib.Core.Path.{◌≡◌, ap, ◌∙◌}
+use mathlib.Core.Path.{◌≡◌, ◌∙◌}
 use lib.IntN.{pos}
-use lib.Count.{count_leading_zeros, leading_top}
 use lib.Pow.{pow_pos, pow-add, pow_mono, shl_lt}
 use lib.Ieee.{binary32, size, units, of_int}
 use lib.Ieee.Digits.{size-lt, size-le, size_reaches}
@@ -66,20 +65,3 @@ kept_most n = le_trans (closest_le n (2 ^ dropped n)) (kept-lt 24 n)
 pub of_kept : (n : ℕ) → of_int binary32 (pos n) ≡ units binary32 false (kept (n * 2 ^ 149)) (dropped (n * 2 ^ 149))
 unfolding of_int
 of_kept n = round_is binary32 false n 1 ∙ simp (div-one, one-mul)
-
--- the same of the word whose leading zeros are shifted out
-pub of_word : (n : ℕ) → 0 < n → n < 2 ^ 64 → let z = count_leading_zeros 64 n in let q = closest (n * 2 ^ z % 2 ^ 64) (2 ^ 40) in
-    (8388608 ≤ q) × (q ≤ 16777216) × (of_int binary32 (pos n) ≡ units binary32 false q (189 - z))
-of_word n h l =
-    let t = leading_top 64 n h l in
-    let z = count_leading_zeros 64 n in
-    let w = n * 2 ^ z in
-    let d : dropped (n * 2 ^ 149) ≡ 189 - z = omega (arith, t.1, size_is n t.0 t.2 t.3, size_shift n 149 h) in
-    let s : size w ≡ 64 = size_shift n z h ∙ omega (arith, t.1, size_is n t.0 t.2 t.3) in
-    let same : w % 2 ^ 64 ≡ w = mod-eq_of_lt (rw s at (size-lt w)) in
-    let few : dropped w ≡ 40 = omega arith in
-    rw same (
-      rw few at (kept_least w (omega arith)),
-      rw few at (kept_most w),
-      of_kept n ∙ rw d (ap (λ (q : ℕ). units binary32 false q (189 - z)) (closest_shift n 149 (189 - z) z 40 (omega (arith, t.1)))),
-    )

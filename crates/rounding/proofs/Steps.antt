@@ -65,7 +65,7 @@ counted (fin s m e) t p =
   where
     go : (q k : ℕ) (b : Bool) → fin s m e ≡ cond b (odd 25 s q k 149) (inf s) → HasValue (fin s m e) s (q * 2 ^ k) (2 ^ 149)
     go q k true h = subst (λ (x : Float). HasValue x s (q * 2 ^ k) (2 ^ 149)) (sym h) (odd_sign 25 s q k 149)
-    go q k false h = absurd (let z : ◌≡◌ {A = ℕ} 0 1 = cc in omega arith)
+    go q k false h = absurd cc
 
 pub counted_away : (n : ℕ) (y : Float) (c : Counted y) → away n y ≡ far c.sign (c.m * 2 ^ c.i) (n * 2 ^ 149)
 counted_away n y c = away_is n y c.sign (c.m * 2 ^ c.i) c.value

@@ -7,12 +7,10 @@ use native.Mathlib.Omega.{arith}
 use lib.ListN.{length, get_or, length-append}
 use lib.Seq.{take-append_seam, drop-append_seam}
 use borrow.Author.Tests.{lt-ltb, le-leb}
+use Rattle.std.specs.Prelude.{Some}
 use Rattle.finding.specs.Finding.{index_of, index_after}
-use Rattle.lines.specs.Lines.{words, same, vector_line, entry_of, entries_of, line_of}
-use Rattle.lines.specs.Loops.{words_after}
-use Rattle.lines.specs.declared.Numeral.TheVariants.{Of}
-use Rattle.lines.specs.declared.Item.TheVariants.{Of as OfItem}
-use Rattle.lines.proofs.Words.{first_word}
+use Rattle.lines.specs.Lines.{words, vector_line, pair, entry_of, entries_of, line_of}
+use Rattle.lines.proofs.Words.{words_after, first_word}
 use Rattle.texts.specs.Texts.{spelled, decimal, hex, entries_text}
 use Rattle.entry_bits.specs.Operands.{Operand}
 use Rattle.reading.specs.Starts.{rest, first_vector}
@@ -26,7 +24,7 @@ use Rattle.session.proofs.Digits.{glyph_not, glyph_no_colon, spelled_lacks, read
 abbrev pub word : ℕ → ℕ → List ℕ
 word i b = decimal i ++ (58 ∷ []) ++ hex b
 
-read_entry : (i b : ℕ) → i < 4294967296 → b < 4294967296 → entry_of (word i b) ≡ OfItem i b
+read_entry : (i b : ℕ) → i < 4294967296 → b < 4294967296 → entry_of (word i b) ≡ Some (pair i b)
 read_entry i b h l =
     let colon = spelled_lacks 58 10 false glyph_no_colon 20 i in
     let before = before_next 58 (decimal i) (hex b) colon in
@@ -83,7 +81,7 @@ count (i ∷ is) [] = omega arith
 count (i ∷ is) (b ∷ bs) = omega (arith, count is bs)
 
 read_entries : (d : ℕ) (is bs : List ℕ) → ((k : ℕ) → get_or is k 0 < 4294967296) → ((k : ℕ) → get_or bs k 0 < 4294967296) → length bs ≡ length is
-    → entries_of (Of d) (entry_words is bs) ≡ vector_line d is bs
+    → entries_of (Some d) (entry_words is bs) ≡ vector_line d is bs
 unfolding entries_of entry_words
 read_entries d [] [] h l e = refl
 read_entries d [] (b ∷ bs) h l e = absurd (omega arith)
@@ -98,7 +96,6 @@ abbrev pub body : Operand → List ℕ
 body a = (118 ∷ 32 ∷ []) ++ (decimal a.dims ++ entries_text a.indexes a.bits)
 
 read_body : (a : Operand) → Writable a → line_of (body a) ≡ vector_line a.dims a.indexes a.bits
-unfolding words same
 read_body a w =
     let d = decimal a.dims in
     let split = words_next d (entries_text a.indexes a.bits) (no_digit 32 10 false 20 a.dims (omega arith)) (spaced a.indexes a.bits) in

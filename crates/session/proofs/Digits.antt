@@ -9,9 +9,9 @@ use lib.Dec.{leb, ltb}
 use lib.ListN.{length, get_or, length-append, get_or-append}
 use borrow.Author.Tests.{lt-ltb, le-ltb, le-leb, lt-leb, ltb-true, ltb-false, leb-true, ne_eqb}
 use Rattle.places.proofs.Below.{and_true}
+use Rattle.std.specs.Prelude.{Some}
 use Rattle.finding.specs.Finding.{index_of}
 use Rattle.lines.specs.Numerals.{digit_of, all_digits, value_from, decimal_of, bits_of}
-use Rattle.lines.specs.declared.Numeral.TheVariants.{Of}
 use Rattle.texts.specs.Texts.{glyph, spelled, decimal, hex}
 use Rattle.lines.proofs.Finding.{Lacks, lacks_append, lacks_one}
 
@@ -155,11 +155,11 @@ leading (suc k) n h l = go (ltb n 10) refl (leading k (n / 10))
         let rec = f (omega (arith, large)) (omega (arith, l, pow-suc 10 k)) in
         rw (get_or-append (spelled 10 false k (n / 10)) (glyph (n % 10) ∷ []) 0 0 (some_byte (spelled 10 false k (n / 10)) rec)) rec
 
-decimal_zero : decimal_of (decimal 0) ≡ Of 0
+decimal_zero : decimal_of (decimal 0) ≡ Some 0
 unfolding spelled all_digits value_from
 decimal_zero = refl
 
-pub read_decimal : (n : ℕ) → n < 4294967296 → decimal_of (decimal n) ≡ Of n
+pub read_decimal : (n : ℕ) → n < 4294967296 → decimal_of (decimal n) ≡ Some n
 read_decimal zero h = decimal_zero
 read_decimal (suc n) h =
     let first = leading 20 (suc n) (omega arith) (omega arith) in
@@ -169,7 +169,7 @@ read_decimal (suc n) h =
     let value = value_spelled 10 false (omega arith) (omega arith) 20 (suc n) (omega arith) in
     rw (ne_eqb (length s) 0 (omega arith), ne_eqb (get_or s 0 0) 48 (omega (arith, first)), all, value, le-leb (suc n) 4294967295 (omega arith))
 
-pub read_hex : (n : ℕ) → n < 4294967296 → bits_of (hex n) ≡ Of n
+pub read_hex : (n : ℕ) → n < 4294967296 → bits_of (hex n) ≡ Some n
 read_hex n h =
     let all = digits_spelled 16 true (omega arith) (omega arith) 8 n in
     let value = value_spelled 16 true (omega arith) (omega arith) 8 n h in

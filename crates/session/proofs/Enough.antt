@@ -10,11 +10,11 @@ use lib.Dec.{ltb}
 use lib.ListN.{length, take, length-take}
 use lib.Seq.{take-nil, take-take, take_all}
 use borrow.Author.Tests.{lt-ltb, le-ltb, ltb-true, ltb-false}
+use Rattle.std.specs.Prelude.{Option, Some, None}
+use Rattle.merges.specs.declared.Op.{Op}
 use Rattle.finding.specs.Finding.{index_of}
 use Rattle.places.proofs.Below.{le_or_lt}
 use Rattle.lines.specs.Lines.{Line, vector_line, bad_line, line_of, named_of}
-use Rattle.lines.specs.declared.Named.{Named}
-use Rattle.lines.specs.declared.Named.TheVariants.{Is, Bad}
 use Rattle.reading.specs.Starts.{has_line, first_line, rest, first_vector, first_name}
 use Rattle.session.specs.Sessions.{Session, session, session_of}
 use Rattle.session.specs.Answers.{text_of, answer_of, ReadOf}
@@ -67,21 +67,21 @@ from_third a b s = session a b (first_name s) (rest s)
 abbrev from_second : Line → List ℕ → Session
 from_second a s = session a (first_vector s) (first_name (rest s)) (rest (rest s))
 
-any_extra : (m : ℕ) (a b : Line) (n : Named) (s : List ℕ) → 1 ≤ m → session a b n (take m s) ≡ session a b n s
+any_extra : (m : ℕ) (a b : Line) (n : Option Op) (s : List ℕ) → 1 ≤ m → session a b n (take m s) ≡ session a b n s
 any_extra m a b n [] h = rw take-nil
 any_extra zero a b n (x ∷ s) h = absurd (omega arith)
 any_extra (suc m) bad_line b n (x ∷ s) h = refl
 any_extra (suc m) (vector_line d is bs) bad_line n (x ∷ s) h = refl
-any_extra (suc m) (vector_line d is bs) (vector_line e js cs) Bad (x ∷ s) h = refl
-any_extra (suc m) (vector_line d is bs) (vector_line e js cs) (Is op) (x ∷ s) h = refl
+any_extra (suc m) (vector_line d is bs) (vector_line e js cs) None (x ∷ s) h = refl
+any_extra (suc m) (vector_line d is bs) (vector_line e js cs) (Some op) (x ∷ s) h = refl
 
 -- after a bad line the rest does not matter
-bad_third : (a b : Line) (s t : List ℕ) → session a b Bad s ≡ session a b Bad t
+bad_third : (a b : Line) (s t : List ℕ) → session a b None s ≡ session a b None t
 bad_third bad_line b s t = refl
 bad_third (vector_line d is bs) bad_line s t = refl
 bad_third (vector_line d is bs) (vector_line e js cs) s t = refl
 
-bad_second : (a : Line) (n m : Named) (s t : List ℕ) → session a bad_line n s ≡ session a bad_line m t
+bad_second : (a : Line) (n m : Option Op) (s t : List ℕ) → session a bad_line n s ≡ session a bad_line m t
 bad_second bad_line n m s t = refl
 bad_second (vector_line d is bs) n m s t = refl
 

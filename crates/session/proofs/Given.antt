@@ -1,16 +1,17 @@
 -- What the answer of a merge tells of the line to print, where there is room for any two vectors of 128 entries. Assumes nothing.
 use Prim.Native.Nat.{ℕ, ◌≤◌}
 use native.Mathlib.Omega.{arith}
-use mathlib.Core.List.{List, ◌++◌, map}
+use mathlib.Core.List.{List, ◌++◌}
 use mathlib.Core.Path.{◌≡◌, refl, sym, ap, ◌∙◌}
 use lib.ListN.{length, take, drop}
-use lib.Ieee.{Float, binary32, of_bits}
-use Rattle.refusal.specs.Answers.{next, leaves, merged_of}
-use Rattle.refusal.specs.declared.Checked.{Checked}
-use Rattle.refusal.specs.declared.Checked.TheVariants.{Valid, Refused}
+use lib.Ieee.{Float}
+use Rattle.std.specs.Prelude.{Result, Ok, Err}
+use Rattle.refusal.specs.Answers.{Checked, Valid, next, leaves}
+use Rattle.refusal.specs.Numbers.{number_of, place_of}
+use Rattle.refusal.specs.declared.Refusal.{Refusal}
 use Rattle.refusal.specs.declared.Merged.{Merged}
-use Rattle.refusal.specs.declared.Merged.TheVariants.{Done, Refused as NotMerged}
-use Rattle.sparse.specs.Vectors.{Vector, vector, size, at}
+use Rattle.refusal.proofs.Told.{value_told, refusal_told}
+use Rattle.sparse.specs.Vectors.{Vector, size, at}
 use Rattle.sparse.specs.Calls.{pair_of, room_of}
 use Rattle.sparse.proofs.Entries.{as_many}
 use Rattle.sparse.proofs.Writes.{room_enough}
@@ -27,17 +28,7 @@ use Rattle.session.proofs.Fronts.{front, front_count}
 
 -- ---- the answer of a merge
 
--- it is a refusal only if the tests found it
-refused_due : (d len turns : ℕ) {n p : ℕ} (due : Checked) → NotMerged n p ≡ merged_of d len turns due → due ≡ Refused n p
-refused_due d len turns Valid e = let z : ◌≡◌ {A = ℕ} 0 1 = cc in absurd (omega arith)
-refused_due d len turns (Refused m q) e = cc
-
--- else they found nothing, and it has the dims and the number of entries of what was written
-done_due : (d len turns : ℕ) {d' n t : ℕ} (due : Checked) → Done d' n t ≡ merged_of d len turns due → (due ≡ Valid) × (d' ≡ d) × (n ≡ len)
-done_due d len turns Valid e = (refl, cc, cc)
-done_due d len turns (Refused m q) e = let z : ◌≡◌ {A = ℕ} 0 1 = cc in absurd (omega arith)
-
--- then what was to be written is in front
+-- where the tests found nothing, what was to be written is in front
 leaves_all {ℓ} : {A : Type ℓ} (new old : List A) {due : Checked} {n : ℕ} → due ≡ Valid → length new ≡ n → leaves due new old ≡ new ++ drop n old
 leaves_all new old none many = ap (λ (c : Checked). leaves c new old) none ∙ ap (λ (k : ℕ). new ++ drop k old) many
 
@@ -49,8 +40,8 @@ room_most Sub d m n h l = omega arith
 room_most Mul d m n h l = omega arith
 
 next_none : (c : Checked) → next c Valid ≡ c
-next_none Valid = refl
-next_none (Refused n p) = refl
+next_none (Ok u) = refl
+next_none (Err r) = refl
 
 -- ---- what is to be printed
 
@@ -67,9 +58,8 @@ pub record Came (op : Op) (a b : Operand) (d n : ℕ) (oi : List ℕ) (ov : List
   pub many' : n ≡ length (take n ov)
 
 -- a merge was called on two vectors, with the values that have the bits that were read, and with room for 256 entries
-module _ (op : Op) (a b : Operand) (short : length a.indexes ≤ 128) (short' : length b.indexes ≤ 128) {va vb : List Float}
-    (left : va ≡ map (of_bits binary32) a.bits) (right : vb ≡ map (of_bits binary32) b.bits) (oi : List ℕ) (ov : List Float)
-    (room : length oi ≡ 256) (room' : length ov ≡ 256) where
+module _ (op : Op) (a b : Operand) (short : length a.indexes ≤ 128) (short' : length b.indexes ≤ 128) {x y : Vector}
+    (left : x ≡ valued a) (right : y ≡ valued b) (oi : List ℕ) (ov : List Float) (room : length oi ≡ 256) (room' : length ov ≡ 256) where
   abbrev v : Vector
   v = given op a b
 
@@ -82,27 +72,27 @@ module _ (op : Op) (a b : Operand) (short : length a.indexes ≤ 128) (short' : 
       ap (next (pair_of (valued a) (valued b))) (room_enough n (length oi) (length ov) (omega (arith, most, room)) (omega (arith, most, room')))
       ∙ next_none (pair_of (valued a) (valued b))
 
-  module _ {r : Merged} {oi' : List ℕ} {ov' : List Float}
-      (called : Joins op (vector a.dims a.indexes va) (vector b.dims b.indexes vb) oi ov r oi' ov') where
-    as_read : (r' : Merged) → r ≡ r' → Joins op (valued a) (valued b) oi ov r' oi' ov'
+  module _ {r : Result Merged Refusal} {oi' : List ℕ} {ov' : List Float} (called : Joins op x y oi ov r oi' ov') where
+    as_read : (r' : Result Merged Refusal) → r ≡ r' → Joins op (valued a) (valued b) oi ov r' oi' ov'
     as_read r' e = rw (left, right, e) at called
 
-    pub told_refused : {n p : ℕ} → r ≡ NotMerged n p → text_of (asks op a b) ≡ refused_text n p
-    told_refused {n} {p} e =
-        let j = as_read (NotMerged n p) e in
-        ap (λ (c : Checked). told c op a b) (sym roomy ∙ refused_due v.dims (size v) _ _ j.answer.answer)
+    pub told_refused : {e : Refusal} → r ≡ Err e → text_of (asks op a b) ≡ refused_text (number_of e) (place_of e)
+    told_refused {e} is =
+        let j = as_read (Err e) is in
+        ap (λ (c : Checked). told c op a b) (sym roomy ∙ refusal_told _ _ e (sym j.answer.answer))
 
-    pub told_done : {d n t : ℕ} → r ≡ Done d n t → Came op a b d n oi' ov'
-    told_done {d} {n} {t} e =
-        let j = as_read (Done d n t) e in
-        let due = done_due v.dims (size v) _ _ j.answer.answer in
-        let even : length v.values ≡ n = as_many (λ k. joined op (at (valued a) k) (at (valued b) k)) a.dims ∙ sym due.2 in
-        let is : oi' ≡ v.indexes ++ drop n oi = j.indexes ∙ leaves_all v.indexes oi due.0 (sym due.2) in
-        let vs : ov' ≡ v.values ++ drop n ov = j.values ∙ leaves_all v.values ov due.0 even in
+    pub told_done : {m : Merged} → r ≡ Ok m → Came op a b m.dims m.len oi' ov'
+    told_done {m} is =
+        let j = as_read (Ok m) is in
+        let due = value_told _ m _ (sym j.answer.answer) in
+        let count : m.len ≡ size v = ap (λ (w : Merged). w.len) due.1 in
+        let even : length v.values ≡ m.len = as_many (λ k. joined op (at (valued a) k) (at (valued b) k)) a.dims ∙ sym count in
+        let ls : oi' ≡ v.indexes ++ drop m.len oi = j.indexes ∙ leaves_all v.indexes oi due.0 (sym count) in
+        let vs : ov' ≡ v.values ++ drop m.len ov = j.values ∙ leaves_all v.values ov due.0 even in
         record {
-          line = ap (λ (c : Checked). told c op a b) (sym roomy ∙ due.0) ∙ rw due.1;
-          indexes = front v.indexes oi n is (sym due.2);
-          values = front v.values ov n vs even;
-          many = front_count v.indexes oi n is (sym due.2);
-          many' = front_count v.values ov n vs even;
+          line = ap (λ (c : Checked). told c op a b) (sym roomy ∙ due.0) ∙ rw (ap (λ (w : Merged). w.dims) due.1);
+          indexes = front v.indexes oi m.len ls (sym count);
+          values = front v.values ov m.len vs even;
+          many = front_count v.indexes oi m.len ls (sym count);
+          many' = front_count v.values ov m.len vs even;
         }

@@ -11,13 +11,12 @@ use lib.Dec.{leb, ltb, eqb}
 use lib.ListN.{length, get_or, take, drop, length-append, length-drop}
 use borrow.Author.Tests.{leb-true}
 use Rattle.places.proofs.Below.{and_true}
+use Rattle.std.specs.Prelude.{Option, Some, None}
+use Rattle.std.specs.Str.{bytes_eq}
+use Rattle.lines.specs.declared.Item.{Item}
 use Rattle.finding.specs.Finding.{index_of}
 use Rattle.lines.specs.Numerals.{all_digits, value_from, numeral_of, decimal_of, bits_of}
-use Rattle.lines.specs.Lines.{Line, vector_line, bad_line, same, entry, entry_of, push, entries_of, of_words, line_of, words}
-use Rattle.lines.specs.declared.Numeral.{Numeral}
-use Rattle.lines.specs.declared.Numeral.TheVariants.{Of, Bad}
-use Rattle.lines.specs.declared.Item.{Item}
-use Rattle.lines.specs.declared.Item.TheVariants.{Of as OfItem, Bad as BadItem}
+use Rattle.lines.specs.Lines.{Line, vector_line, bad_line, entry, entry_of, push, entries_of, of_words, line_of, words}
 use Rattle.merges.specs.declared.Op.{Op}
 use Rattle.entry_bits.specs.Operands.{Operand}
 use Rattle.session.specs.Sessions.{asks, session_of}
@@ -30,14 +29,14 @@ use Rattle.session.proofs.Meaning.{asked, read_back, only_written}
 -- ---- numbers
 
 -- a number that is read fits u32
-abbrev Fits : Numeral → Type 0
-Fits (Of n) = n < 4294967296
-Fits Bad = Unit
+abbrev Fits : Option ℕ → Type 0
+Fits (Some n) = n < 4294967296
+Fits None = Unit
 
 numeral_fits : (base : ℕ) (s : List ℕ) → Fits (numeral_of base s)
 numeral_fits base s = go (all_digits base s && leb (value_from base 0 s) 4294967295) refl
   where
-    go : (b : Bool) → (all_digits base s && leb (value_from base 0 s) 4294967295) ≡ b → Fits (cond b (Of (value_from base 0 s)) Bad)
+    go : (b : Bool) → (all_digits base s && leb (value_from base 0 s) 4294967295) ≡ b → Fits (cond b (Some (value_from base 0 s)) None)
     go true e =
         let both = and_true (all_digits base s) (leb (value_from base 0 s) 4294967295) e in
         omega (arith, leb-true (value_from base 0 s) 4294967295 both.1)
@@ -46,28 +45,28 @@ numeral_fits base s = go (all_digits base s && leb (value_from base 0 s) 4294967
 decimal_fits : (s : List ℕ) → Fits (decimal_of s)
 decimal_fits s = go (eqb (length s) 0 || (eqb (get_or s 0 0) 48 && ltb 1 (length s)))
   where
-    go : (b : Bool) → Fits (cond b Bad (numeral_of 10 s))
+    go : (b : Bool) → Fits (cond b None (numeral_of 10 s))
     go true = tt
     go false = numeral_fits 10 s
 
 hex_fits : (s : List ℕ) → Fits (bits_of s)
 hex_fits s = go (eqb (length s) 8)
   where
-    go : (b : Bool) → Fits (cond b (numeral_of 16 s) Bad)
+    go : (b : Bool) → Fits (cond b (numeral_of 16 s) None)
     go true = numeral_fits 16 s
     go false = tt
 
 -- ---- entries
 
 -- both numbers of an entry fit
-abbrev BothFit : Item → Type 0
-BothFit (OfItem i b) = (i < 4294967296) × (b < 4294967296)
-BothFit BadItem = Unit
+abbrev BothFit : Option Item → Type 0
+BothFit (Some e) = (e.index < 4294967296) × (e.bits < 4294967296)
+BothFit None = Unit
 
-entry_fits : (n m : Numeral) → Fits n → Fits m → BothFit (entry n m)
-entry_fits (Of i) (Of b) h l = (h, l)
-entry_fits (Of i) Bad h l = tt
-entry_fits Bad m h l = tt
+entry_fits : (n m : Option ℕ) → Fits n → Fits m → BothFit (entry n m)
+entry_fits (Some i) (Some b) h l = (h, l)
+entry_fits (Some i) None h l = tt
+entry_fits None m h l = tt
 
 -- every number of a list fits; past its end there are zeros
 abbrev AllFit : List ℕ → Type 0
@@ -85,16 +84,16 @@ abbrev Within : ℕ → Line → Type 0
 Within n (vector_line d is bs) = (d < 4294967296) × AllFit is × AllFit bs × (length bs ≡ length is) × (length is ≤ n)
 Within n bad_line = Unit
 
-push_within : (n : ℕ) (o : Item) (l : Line) → BothFit o → Within n l → Within (suc n) (push o l)
-push_within n (OfItem i b) (vector_line d is bs) h w =
-    (w.0, one_fits i is h.0 w.1, one_fits b bs h.1 w.2, omega (arith, w.3), omega (arith, w.4))
-push_within n (OfItem i b) bad_line h w = tt
-push_within n BadItem l h w = tt
+push_within : (n : ℕ) (o : Option Item) (l : Line) → BothFit o → Within n l → Within (suc n) (push o l)
+push_within n (Some e) (vector_line d is bs) h w =
+    (w.0, one_fits e.index is h.0 w.1, one_fits e.bits bs h.1 w.2, omega (arith, w.3), omega (arith, w.4))
+push_within n (Some e) bad_line h w = tt
+push_within n None l h w = tt
 
-entries_within : (d : Numeral) (ws : List (List ℕ)) → Fits d → Within (length ws) (entries_of d ws)
+entries_within : (d : Option ℕ) (ws : List (List ℕ)) → Fits d → Within (length ws) (entries_of d ws)
 unfolding entries_of
-entries_within (Of d) [] h = (h, none_fit, none_fit, refl, omega arith)
-entries_within Bad [] h = tt
+entries_within (Some d) [] h = (h, none_fit, none_fit, refl, omega arith)
+entries_within None [] h = tt
 entries_within d (w ∷ ws) h =
     let x = index_of 58 w in
     push_within (length ws) (entry_of w) (entries_of d ws)
@@ -111,11 +110,11 @@ fewer n m bad_line h w = tt
 words_within : (ws : List (List ℕ)) → Within 128 (of_words ws)
 words_within [] = tt
 words_within (v ∷ []) = tt
-words_within (v ∷ d ∷ ws) = go (same v (118 ∷ []) && leb (length ws) 128) refl
+words_within (v ∷ d ∷ ws) = go (bytes_eq v (118 ∷ []) && leb (length ws) 128) refl
   where
-    go : (b : Bool) → (same v (118 ∷ []) && leb (length ws) 128) ≡ b → Within 128 (cond b (entries_of (decimal_of d) ws) bad_line)
+    go : (b : Bool) → (bytes_eq v (118 ∷ []) && leb (length ws) 128) ≡ b → Within 128 (cond b (entries_of (decimal_of d) ws) bad_line)
     go true e =
-        let few = leb-true (length ws) 128 (and_true (same v (118 ∷ [])) (leb (length ws) 128) e).1 in
+        let few = leb-true (length ws) 128 (and_true (bytes_eq v (118 ∷ [])) (leb (length ws) 128) e).1 in
         fewer (length ws) 128 (entries_of (decimal_of d) ws) few (entries_within (decimal_of d) ws (decimal_fits d))
     go false e = tt
 
@@ -136,7 +135,7 @@ line_writable s a e = go (has_line s) refl e
           few = w.4;
           short = omega (arith, found.0, found.1, whole, length-drop (suc (index_of 10 s)) s);
         }
-    go false h l = let z : ◌≡◌ {A = ℕ} 0 1 = cc in absurd (omega arith)
+    go false h l = absurd cc
 
 -- ---- sessions
 

@@ -3,11 +3,9 @@
 use Prim.Native.Nat.{ℕ}
 use mathlib.Core.List.{List, [], ◌∷◌, ◌++◌, append_assoc, append-nil}
 use mathlib.Core.Path.{◌≡◌, refl, sym, ap, ◌∙◌}
-use native.Mathlib.Omega.{arith}
+use Rattle.std.specs.Prelude.{Option, Some, None}
 use Rattle.finding.specs.Finding.{index_of, index_after}
-use Rattle.lines.specs.Lines.{Line, vector_line, bad_line, same}
-use Rattle.lines.specs.declared.Named.{Named}
-use Rattle.lines.specs.declared.Named.TheVariants.{Is, Bad}
+use Rattle.lines.specs.Lines.{Line, vector_line, bad_line}
 use Rattle.merges.specs.declared.Op.{Op}
 use Rattle.merges.specs.declared.Op.TheVariants.{Add, Sub, Mul}
 use Rattle.entry_bits.specs.Operands.{Operand, operand}
@@ -17,8 +15,8 @@ use Rattle.session.specs.Written.{written, named, Writable}
 use Rattle.session.proofs.Back.{read_written, after_written}
 use Rattle.session.proofs.Only.{vector_only, named_only}
 
-read_named : (op : Op) → first_name (named op) ≡ Is op
-unfolding index_of index_after same
+read_named : (op : Op) → first_name (named op) ≡ Some op
+unfolding index_of index_after
 read_named Add = refl
 read_named Sub = refl
 read_named Mul = refl
@@ -30,7 +28,7 @@ after_named Sub = refl
 after_named Mul = refl
 
 -- a session whose lines are known
-known : (s t u v : List ℕ) (l m : Line) (n : Named) → first_vector s ≡ l → rest s ≡ t → first_vector t ≡ m → rest t ≡ u → first_name u ≡ n → rest u ≡ v
+known : (s t u v : List ℕ) (l m : Line) (n : Option Op) → first_vector s ≡ l → rest s ≡ t → first_vector t ≡ m → rest t ≡ u → first_name u ≡ n → rest u ≡ v
     → session_of s ≡ session l m n v
 known s t u v l m n first next second after third end = rw (next, after, end, first, second, third)
 
@@ -48,17 +46,17 @@ read_back op a b w v =
 
 -- what a session says of its lines
 module _ (op : Op) (a b : Operand) where
-  pub asked : (l m : Line) (n : Named) (extra : List ℕ) → session l m n extra ≡ asks op a b
-      → (l ≡ line_for a) × (m ≡ line_for b) × (n ≡ Is op) × (extra ≡ [])
-  asked bad_line m n extra e = let z : ◌≡◌ {A = ℕ} 0 1 = cc in absurd (omega arith)
-  asked (vector_line d is bs) bad_line n extra e = let z : ◌≡◌ {A = ℕ} 0 1 = cc in absurd (omega arith)
-  asked (vector_line d is bs) (vector_line f js cs) Bad extra e = let z : ◌≡◌ {A = ℕ} 0 1 = cc in absurd (omega arith)
-  asked (vector_line d is bs) (vector_line f js cs) (Is p) (x ∷ extra) e = let z : ◌≡◌ {A = ℕ} 0 1 = cc in absurd (omega arith)
-  asked (vector_line d is bs) (vector_line f js cs) (Is p) [] e =
+  pub asked : (l m : Line) (n : Option Op) (extra : List ℕ) → session l m n extra ≡ asks op a b
+      → (l ≡ line_for a) × (m ≡ line_for b) × (n ≡ Some op) × (extra ≡ [])
+  asked bad_line m n extra e = absurd cc
+  asked (vector_line d is bs) bad_line n extra e = absurd cc
+  asked (vector_line d is bs) (vector_line f js cs) None extra e = absurd cc
+  asked (vector_line d is bs) (vector_line f js cs) (Some p) (x ∷ extra) e = absurd cc
+  asked (vector_line d is bs) (vector_line f js cs) (Some p) [] e =
       let first : operand d is bs ≡ a = cc in
       let second : operand f js cs ≡ b = cc in
       let name : p ≡ op = cc in
-      (ap line_for first, ap line_for second, ap (λ (o : Op). Is o) name, refl)
+      (ap line_for first, ap line_for second, ap (λ (o : Op). Some o) name, refl)
 
 -- nothing else is read, whatever the bytes
 pub only_written : (op : Op) (a b : Operand) (s : List ℕ) → session_of s ≡ asks op a b → s ≡ written a ++ written b ++ named op

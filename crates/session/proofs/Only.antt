@@ -9,16 +9,15 @@ use lib.ListN.{length, take, drop, length-drop}
 use lib.Seq.{append_snoc}
 use borrow.Author.Tests.{eqb-true}
 use Rattle.places.proofs.Below.{and_true}
+use Rattle.std.specs.Prelude.{Option, Some, None}
+use Rattle.std.specs.Str.{bytes_eq}
+use Rattle.std.proofs.lemmas.Slice.Eq.{bytes_eq-Decides}
+use Rattle.std.proofs.lemmas.Option.{same_Some}
+use Rattle.lines.specs.declared.Item.{Item}
 use Rattle.finding.specs.Finding.{index_of}
 use Rattle.lines.specs.Numerals.{decimal_of, bits_of}
-use Rattle.lines.specs.Lines.{Line, vector_line, bad_line, words, same, entry, entry_of, push, entries_of, of_words, line_of, named_of}
-use Rattle.lines.specs.Loops.{words_after}
-use Rattle.lines.specs.declared.Numeral.{Numeral}
-use Rattle.lines.specs.declared.Numeral.TheVariants.{Of, Bad}
-use Rattle.lines.specs.declared.Item.{Item}
-use Rattle.lines.specs.declared.Item.TheVariants.{Of as OfItem, Bad as BadItem}
-use Rattle.lines.specs.declared.Named.TheVariants.{Is, Bad as BadName}
-use Rattle.lines.proofs.Words.{first_word}
+use Rattle.lines.specs.Lines.{Line, vector_line, bad_line, words, pair, entry, entry_of, push, entries_of, of_words, line_of, named_of}
+use Rattle.lines.proofs.Words.{words_after, first_word}
 use Rattle.merges.specs.declared.Op.{Op}
 use Rattle.merges.specs.declared.Op.TheVariants.{Add, Sub, Mul}
 use Rattle.texts.specs.Texts.{decimal, hex, entries_text}
@@ -31,23 +30,16 @@ use Rattle.session.proofs.Digits.{padded_length}
 use Rattle.session.proofs.Respelled.{decimal_only, hex_only}
 use Rattle.session.proofs.Back.{word, body, split_written}
 
-pub same_only : (s t : List ℕ) → same s t ≡ true → s ≡ t
-unfolding same
-same_only [] [] e = refl
-same_only [] (b ∷ t) e = let z : ◌≡◌ {A = ℕ} 0 1 = cc in absurd (omega arith)
-same_only (a ∷ s) [] e = let z : ◌≡◌ {A = ℕ} 0 1 = cc in absurd (omega arith)
-same_only (a ∷ s) (b ∷ t) e =
-    let both = and_true (eqb a b) (same s t) e in
-    ap₂ (λ (x : ℕ) (u : List ℕ). x ∷ u) (eqb-true a b both.0) (same_only s t both.1)
-
 -- ---- an entry
 
-entry_of_lem : (n m : Numeral) (i b : ℕ) → entry n m ≡ OfItem i b → (n ≡ Of i) × (m ≡ Of b)
-entry_of_lem (Of j) (Of c) i b e = (cc, cc)
-entry_of_lem (Of j) Bad i b e = let z : ◌≡◌ {A = ℕ} 0 1 = cc in absurd (omega arith)
-entry_of_lem Bad m i b e = let z : ◌≡◌ {A = ℕ} 0 1 = cc in absurd (omega arith)
+entry_of_lem : (n m : Option ℕ) (i b : ℕ) → entry n m ≡ Some (pair i b) → (n ≡ Some i) × (m ≡ Some b)
+entry_of_lem (Some j) (Some c) i b e =
+    let same = same_Some (pair j c) (pair i b) e in
+    (ap (λ (o : Item). Some o.index) same, ap (λ (o : Item). Some o.bits) same)
+entry_of_lem (Some j) None i b e = absurd cc
+entry_of_lem None m i b e = absurd cc
 
-entry_only : (w : List ℕ) (i b : ℕ) → entry_of w ≡ OfItem i b → w ≡ word i b
+entry_only : (w : List ℕ) (i b : ℕ) → entry_of w ≡ Some (pair i b) → w ≡ word i b
 entry_only w i b e =
     let x = index_of 58 w in
     let both = entry_of_lem (decimal_of (take x w)) (bits_of (drop (suc x) w)) i b e in
@@ -67,7 +59,7 @@ apart (w ∷ ws) = 32 ∷ (w ++ apart ws)
 
 -- a line is its words
 joined : (s w : List ℕ) (ws : List (List ℕ)) → words s ≡ w ∷ ws → s ≡ w ++ apart ws
-unfolding words apart
+unfolding apart
 joined [] w ws e =
     let v : w ≡ [] = cc in
     let vs : ws ≡ [] = cc in
@@ -90,44 +82,45 @@ joined (c ∷ s) w ws e =
 
 -- ---- a vector's line
 
-entries_only : (n : Numeral) (ws : List (List ℕ)) (d : ℕ) (is bs : List ℕ) → entries_of n ws ≡ vector_line d is bs
-    → (n ≡ Of d) × (apart ws ≡ entries_text is bs)
+entries_only : (n : Option ℕ) (ws : List (List ℕ)) (d : ℕ) (is bs : List ℕ) → entries_of n ws ≡ vector_line d is bs
+    → (n ≡ Some d) × (apart ws ≡ entries_text is bs)
 unfolding entries_of apart entries_text
-entries_only (Of m) [] d is bs e =
+entries_only (Some m) [] d is bs e =
     let none : is ≡ [] = cc in
     (cc, rw none)
-entries_only Bad [] d is bs e = let z : ◌≡◌ {A = ℕ} 0 1 = cc in absurd (omega arith)
+entries_only None [] d is bs e = absurd cc
 entries_only n (w ∷ ws) d is bs e = go (entry_of w) (entries_of n ws) refl refl e (entries_only n ws)
   where
-    go : (o : Item) (l : Line) → entry_of w ≡ o → entries_of n ws ≡ l → push o l ≡ vector_line d is bs
-        → ((d : ℕ) (is bs : List ℕ) → entries_of n ws ≡ vector_line d is bs → (n ≡ Of d) × (apart ws ≡ entries_text is bs))
-        → (n ≡ Of d) × (32 ∷ (w ++ apart ws) ≡ entries_text is bs)
-    go (OfItem i b) (vector_line c js cs) p q e f =
+    go : (o : Option Item) (l : Line) → entry_of w ≡ o → entries_of n ws ≡ l → push o l ≡ vector_line d is bs
+        → ((d : ℕ) (is bs : List ℕ) → entries_of n ws ≡ vector_line d is bs → (n ≡ Some d) × (apart ws ≡ entries_text is bs))
+        → (n ≡ Some d) × (32 ∷ (w ++ apart ws) ≡ entries_text is bs)
+    go (Some o) (vector_line c js cs) p q e f =
         let r = f c js cs q in
         let dims : c ≡ d = cc in
-        let indexes : is ≡ i ∷ js = cc in
-        let bits : bs ≡ b ∷ cs = cc in
-        let text : w ++ apart ws ≡ word i b ++ entries_text js cs = ap₂ (λ (s t : List ℕ). s ++ t) (entry_only w i b p) r.1 in
-        (r.0 ∙ ap (λ (m : ℕ). Of m) dims, rw (indexes, bits) (ap (λ (t : List ℕ). 32 ∷ t) text))
-    go (OfItem i b) bad_line p q e f = let z : ◌≡◌ {A = ℕ} 0 1 = cc in absurd (omega arith)
-    go BadItem l p q e f = let z : ◌≡◌ {A = ℕ} 0 1 = cc in absurd (omega arith)
+        let indexes : is ≡ o.index ∷ js = cc in
+        let bits : bs ≡ o.bits ∷ cs = cc in
+        let text : w ++ apart ws ≡ word o.index o.bits ++ entries_text js cs =
+        ap₂ (λ (s t : List ℕ). s ++ t) (entry_only w o.index o.bits p) r.1 in
+        (r.0 ∙ ap (λ (m : ℕ). Some m) dims, rw (indexes, bits) (ap (λ (t : List ℕ). 32 ∷ t) text))
+    go (Some o) bad_line p q e f = absurd cc
+    go None l p q e f = absurd cc
 
 line_only : (s : List ℕ) (d : ℕ) (is bs : List ℕ) → line_of s ≡ vector_line d is bs → s ≡ body (operand d is bs)
 unfolding apart
 line_only s d is bs e = go (words s) refl e
   where
-    read : (v w : List ℕ) (ws : List (List ℕ)) (b : Bool) → words s ≡ v ∷ w ∷ ws → (same v (118 ∷ []) && leb (length ws) 128) ≡ b
+    read : (v w : List ℕ) (ws : List (List ℕ)) (b : Bool) → words s ≡ v ∷ w ∷ ws → (bytes_eq v (118 ∷ []) && leb (length ws) 128) ≡ b
         → cond b (entries_of (decimal_of w) ws) bad_line ≡ vector_line d is bs → s ≡ body (operand d is bs)
     read v w ws true p q e =
-        let first = same_only v (118 ∷ []) (and_true (same v (118 ∷ [])) (leb (length ws) 128) q).0 in
+        let first = (bytes_eq-Decides v (118 ∷ [])).0 (and_true (bytes_eq v (118 ∷ [])) (leb (length ws) 128) q).0 in
         let r = entries_only (decimal_of w) ws d is bs e in
         joined s v (w ∷ ws) p ∙ rw (first, decimal_only w d r.0, r.1)
-    read v w ws false p q e = let z : ◌≡◌ {A = ℕ} 0 1 = cc in absurd (omega arith)
+    read v w ws false p q e = absurd cc
 
     go : (us : List (List ℕ)) → words s ≡ us → of_words us ≡ vector_line d is bs → s ≡ body (operand d is bs)
-    go [] p e = let z : ◌≡◌ {A = ℕ} 0 1 = cc in absurd (omega arith)
-    go (v ∷ []) p e = let z : ◌≡◌ {A = ℕ} 0 1 = cc in absurd (omega arith)
-    go (v ∷ w ∷ ws) p e = read v w ws (same v (118 ∷ []) && leb (length ws) 128) p refl e
+    go [] p e = absurd cc
+    go (v ∷ []) p e = absurd cc
+    go (v ∷ w ∷ ws) p e = read v w ws (bytes_eq v (118 ∷ []) && leb (length ws) 128) p refl e
 
 -- ---- the first line
 
@@ -142,30 +135,30 @@ vector_only s d is bs = go (has_line s) refl
         split_line s h
         ∙ ap (λ (t : List ℕ). t ++ 10 ∷ rest s) (line_only (first_line s) d is bs e)
         ∙ sym (split_written (operand d is bs) (rest s))
-    go false h e = let z : ◌≡◌ {A = ℕ} 0 1 = cc in absurd (omega arith)
+    go false h e = absurd cc
 
-name_only : (s : List ℕ) (op : Op) → named_of s ≡ Is op → s ++ 10 ∷ [] ≡ named op
-name_only s op = go (same s (97 ∷ 100 ∷ 100 ∷ [])) (same s (115 ∷ 117 ∷ 98 ∷ [])) (same s (109 ∷ 117 ∷ 108 ∷ [])) refl refl refl
+name_only : (s : List ℕ) (op : Op) → named_of s ≡ Some op → s ++ 10 ∷ [] ≡ named op
+name_only s op = go (bytes_eq s (97 ∷ 100 ∷ 100 ∷ [])) (bytes_eq s (115 ∷ 117 ∷ 98 ∷ [])) (bytes_eq s (109 ∷ 117 ∷ 108 ∷ [])) refl refl refl
   where
-    go : (a b c : Bool) → same s (97 ∷ 100 ∷ 100 ∷ []) ≡ a → same s (115 ∷ 117 ∷ 98 ∷ []) ≡ b → same s (109 ∷ 117 ∷ 108 ∷ []) ≡ c
-        → cond a (Is Add) (cond b (Is Sub) (cond c (Is Mul) BadName)) ≡ Is op → s ++ 10 ∷ [] ≡ named op
+    go : (a b c : Bool) → bytes_eq s (97 ∷ 100 ∷ 100 ∷ []) ≡ a → bytes_eq s (115 ∷ 117 ∷ 98 ∷ []) ≡ b → bytes_eq s (109 ∷ 117 ∷ 108 ∷ []) ≡ c
+        → cond a (Some Add) (cond b (Some Sub) (cond c (Some Mul) None)) ≡ Some op → s ++ 10 ∷ [] ≡ named op
     go true b c p q r e =
         let is : op ≡ Add = cc in
-        rw (is, same_only s (97 ∷ 100 ∷ 100 ∷ []) p)
+        rw (is, (bytes_eq-Decides s (97 ∷ 100 ∷ 100 ∷ [])).0 p)
     go false true c p q r e =
         let is : op ≡ Sub = cc in
-        rw (is, same_only s (115 ∷ 117 ∷ 98 ∷ []) q)
+        rw (is, (bytes_eq-Decides s (115 ∷ 117 ∷ 98 ∷ [])).0 q)
     go false false true p q r e =
         let is : op ≡ Mul = cc in
-        rw (is, same_only s (109 ∷ 117 ∷ 108 ∷ []) r)
-    go false false false p q r e = let z : ◌≡◌ {A = ℕ} 0 1 = cc in absurd (omega arith)
+        rw (is, (bytes_eq-Decides s (109 ∷ 117 ∷ 108 ∷ [])).0 r)
+    go false false false p q r e = absurd cc
 
-pub named_only : (s : List ℕ) (op : Op) → first_name s ≡ Is op → s ≡ named op ++ rest s
+pub named_only : (s : List ℕ) (op : Op) → first_name s ≡ Some op → s ≡ named op ++ rest s
 named_only s op = go (has_line s) refl
   where
-    go : (b : Bool) → has_line s ≡ b → cond b (named_of (first_line s)) BadName ≡ Is op → s ≡ named op ++ rest s
+    go : (b : Bool) → has_line s ≡ b → cond b (named_of (first_line s)) None ≡ Some op → s ≡ named op ++ rest s
     go true h e =
         split_line s h
         ∙ sym (append_snoc (first_line s) 10 (rest s))
         ∙ ap (λ (t : List ℕ). t ++ rest s) (name_only (first_line s) op e)
-    go false h e = let z : ◌≡◌ {A = ℕ} 0 1 = cc in absurd (omega arith)
+    go false h e = absurd cc

@@ -11,8 +11,8 @@ use lib.Dec.{leb, ltb, eqb}
 use lib.ListN.{length}
 use borrow.Author.Tests.{lt-ltb, ltb-true, leb-true, eqb-true, eqb-false, ne_eqb}
 use Rattle.places.proofs.Below.{and_true, le_or_lt}
+use Rattle.std.specs.Prelude.{Some, None}
 use Rattle.lines.specs.Numerals.{digit_of, all_digits, value_from, numeral_of, decimal_of, bits_of}
-use Rattle.lines.specs.declared.Numeral.TheVariants.{Of, Bad}
 use Rattle.texts.specs.Texts.{glyph, spelled, decimal, hex}
 use Rattle.texts.proofs.Spelling.{spelled_one, spelled_more}
 use Rattle.session.proofs.Digits.{glyph_digit}
@@ -49,27 +49,27 @@ module _ (base : ℕ) (padded : Bool) (some : 0 < base) (few : base ≤ 16) wher
 
 -- ---- what a number says of its text
 
-read_as : (base : ℕ) (s : List ℕ) (n : ℕ) → numeral_of base s ≡ Of n → (all_digits base s ≡ true) × (value_from base 0 s ≡ n) × (n ≤ 4294967295)
+read_as : (base : ℕ) (s : List ℕ) (n : ℕ) → numeral_of base s ≡ Some n → (all_digits base s ≡ true) × (value_from base 0 s ≡ n) × (n ≤ 4294967295)
 read_as base s n = go (all_digits base s && leb (value_from base 0 s) 4294967295) refl
   where
-    go : (b : Bool) → (all_digits base s && leb (value_from base 0 s) 4294967295) ≡ b → cond b (Of (value_from base 0 s)) Bad ≡ Of n
+    go : (b : Bool) → (all_digits base s && leb (value_from base 0 s) 4294967295) ≡ b → cond b (Some (value_from base 0 s)) None ≡ Some n
         → (all_digits base s ≡ true) × (value_from base 0 s ≡ n) × (n ≤ 4294967295)
     go true h e =
         let both = and_true (all_digits base s) (leb (value_from base 0 s) 4294967295) h in
         let v : value_from base 0 s ≡ n = cc in
         (both.0, v, omega (arith, leb-true (value_from base 0 s) 4294967295 both.1))
-    go false h e = let z : ◌≡◌ {A = ℕ} 0 1 = cc in absurd (omega arith)
+    go false h e = absurd cc
 
-pub hex_only : (s : List ℕ) (n : ℕ) → bits_of s ≡ Of n → s ≡ hex n
+pub hex_only : (s : List ℕ) (n : ℕ) → bits_of s ≡ Some n → s ≡ hex n
 unfolding spelled
 hex_only s n = go (eqb (length s) 8) refl
   where
-    go : (b : Bool) → eqb (length s) 8 ≡ b → cond b (numeral_of 16 s) Bad ≡ Of n → s ≡ hex n
+    go : (b : Bool) → eqb (length s) 8 ≡ b → cond b (numeral_of 16 s) None ≡ Some n → s ≡ hex n
     go true h e =
         let r = read_as 16 s n e in
         let eight : length s + 0 ≡ 8 = omega (arith, eqb-true (length s) 8 h) in
         sym (rw (eight, r.1) at (spelled_on 16 true (omega arith) (omega arith) s 0 0 (inl refl) r.0))
-    go false h e = let z : ◌≡◌ {A = ℕ} 0 1 = cc in absurd (omega arith)
+    go false h e = absurd cc
 
 -- a number with a digit in front is large
 big : (j n : ℕ) (s : List ℕ) → 10 ^ j ≤ n → 10 ^ (j + length s) ≤ value_from 10 n s
@@ -89,7 +89,7 @@ short d n s h e l = ⊎_elim (λ a. a) (λ a. absurd (far a)) (le_or_lt (length 
         let most : 10 ^ 20 ≤ 10 ^ (0 + length s) = pow-le-pow_right (omega arith) {i = 20} {j = 0 + length s} (omega arith) in
         omega (arith, most, big 0 d s (omega (arith, pow-zero 10)))
 
-one_digit : (c n : ℕ) → numeral_of 10 (c ∷ []) ≡ Of n → c ∷ [] ≡ decimal n
+one_digit : (c n : ℕ) → numeral_of 10 (c ∷ []) ≡ Some n → c ∷ [] ≡ decimal n
 unfolding all_digits value_from
 one_digit c n e =
     let r = read_as 10 (c ∷ []) n e in
@@ -97,7 +97,7 @@ one_digit c n e =
     let v : n ≡ digit_of c = omega (arith, r.1) in
     rw (v, spelled_one 10 false (digit_of c) 20 (omega arith) d refl, mod-eq_of_lt d, glyph_digit c (omega arith))
 
-more_digits : (c : ℕ) (s : List ℕ) (n : ℕ) → (c ≡ 48 → ⊥) → numeral_of 10 (c ∷ s) ≡ Of n → c ∷ s ≡ decimal n
+more_digits : (c : ℕ) (s : List ℕ) (n : ℕ) → (c ≡ 48 → ⊥) → numeral_of 10 (c ∷ s) ≡ Some n → c ∷ s ≡ decimal n
 unfolding all_digits value_from
 more_digits c s n no_zero e =
     let r = read_as 10 (c ∷ s) n e in
@@ -114,14 +114,13 @@ more_digits c s n no_zero e =
     let first = spelled_one 10 false (digit_of c) (20 - length s) (omega (arith, few)) d refl in
     sym (rw (all, value, first, mod-eq_of_lt d, back) at on)
 
-pub decimal_only : (s : List ℕ) (n : ℕ) → decimal_of s ≡ Of n → s ≡ decimal n
-decimal_only [] n e = let z : ◌≡◌ {A = ℕ} 0 1 = cc in absurd (omega arith)
+pub decimal_only : (s : List ℕ) (n : ℕ) → decimal_of s ≡ Some n → s ≡ decimal n
+decimal_only [] n e = absurd cc
 decimal_only (c ∷ []) n e = one_digit c n (rw and-false at e)
 decimal_only (c ∷ b ∷ s) n e = go (eqb c 48) refl (rw (ne_eqb (length (c ∷ b ∷ s)) 0 (omega arith)) at e)
   where
-    go : (t : Bool) → eqb c 48 ≡ t → cond (t && ltb 1 (suc (suc (length s)))) Bad (numeral_of 10 (c ∷ b ∷ s)) ≡ Of n → c ∷ b ∷ s ≡ decimal n
+    go : (t : Bool) → eqb c 48 ≡ t → cond (t && ltb 1 (suc (suc (length s)))) None (numeral_of 10 (c ∷ b ∷ s)) ≡ Some n → c ∷ b ∷ s ≡ decimal n
     go true h e =
-        let bad : Bad ≡ Of n = rw (lt-ltb 1 (suc (suc (length s))) (omega arith)) at e in
-        let z : ◌≡◌ {A = ℕ} 0 1 = cc in
-        absurd (omega arith)
+        let bad : None ≡ Some n = rw (lt-ltb 1 (suc (suc (length s))) (omega arith)) at e in
+        absurd cc
     go false h e = more_digits c (b ∷ s) n (eqb-false c 48 h) e

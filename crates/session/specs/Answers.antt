@@ -1,7 +1,7 @@
 -- Document 01, "The program": what is printed for a session.
-use Rattle.std.specs.Prelude.{ℕ, min, List, ◌≡◌, length, take}
-use Rattle.refusal.specs.declared.Checked.{Checked}
-use Rattle.refusal.specs.declared.Checked.TheVariants.{Valid, Refused}
+use Rattle.std.specs.Prelude.{ℕ, min, List, ◌≡◌, length, take, Ok, Err}
+use Rattle.refusal.specs.Answers.{Checked}
+use Rattle.refusal.specs.Numbers.{number_of, place_of}
 use Rattle.sparse.specs.Calls.{pair_of}
 use Rattle.merges.specs.Algebra.{joins}
 use Rattle.merges.specs.declared.Op.{Op}
@@ -12,8 +12,8 @@ use Rattle.entry_bits.specs.Operands.{Operand, valued, shown}
 
 -- "A refusal prints `refused N P`."; else the vector that the two give
 abbrev pub told : Checked → Op → Operand → Operand → List ℕ
-told (Refused n p) op a b = refused_text n p
-told Valid op a b =
+told (Err r) op a b = refused_text (number_of r) (place_of r)
+told (Ok u) op a b =
     let v = joins op (valued a) (valued b) in
     vector_text v.dims v.indexes (shown op a b v.indexes v.values)
 

@@ -2,15 +2,14 @@
 use Rattle.std.specs.Prelude.{ℕ, ◌≤◌, List, length}
 use Rattle.merges.specs.declared.Op.{Op}
 use Rattle.texts.specs.Puts.{Puts}
-use Rattle.entry_bits.specs.Operands.{Operand, Even}
+use Rattle.entry_bits.specs.Operands.{Operand}
 use Rattle.session.specs.Sessions.{asks}
 use Rattle.session.specs.Answers.{text_of}
 
 -- two operands of at most 128 entries each, and room for any line that they can give
-pub record Fit (ia ba ib bb out : List ℕ) : Type 0 where
-  pub even : Even ia ba ib bb
-  pub few : length ia ≤ 128
-  pub few' : length ib ≤ 128
+pub record Fit (a b : Operand) (out : List ℕ) : Type 0 where
+  pub few : length a.indexes ≤ 128
+  pub few' : length b.indexes ≤ 128
   pub room : 8192 ≤ length out
 
 -- the line for an operation on two operands was written to the front of a list

@@ -8,39 +8,48 @@ ghost use Rattle.std.specs.Prelude.{◌≤◌, length, take};
 ghost use Rattle.texts.specs.Puts.{Puts};
 ghost use Rattle.session.specs.Answers.{answer_of, Front};
 
-use lines::Named;
-use reading::Read;
+use entry_bits::OperandBorrowed;
+use lines::{MOST, Room};
+use reading::Input;
+
+// Room for the entries of a vector. The lists have a fixed size, since the program has no heap.
+fn room() -> Room {
+    Room {
+        indexes: [0; MOST],
+        bits: [0; MOST],
+    }
+}
 
 // Writes what is printed for the bytes s to the front of `out`, and answers how many bytes that is.
 pub fn answer(s: &[u8], out: &mut [u8; 8192]) -> usize
     ensures { Puts (answer_of s.now) 0 out.old result out.new }
 {
-    let mut ia = [0u32; 128];
-    let mut ba = [0u32; 128];
-    let Read::Vector(dims_a, na, second) = reading::vector_line(s, 0, &mut ia, &mut ba) else {
+    let mut input = Input { rest: s };
+    let mut left = room();
+    let Some(a) = input.vector_line(&mut left) else {
         return texts::bad_line(out, 1);
     };
-    let mut ib = [0u32; 128];
-    let mut bb = [0u32; 128];
-    let Read::Vector(dims_b, nb, third) = reading::vector_line(s, second, &mut ib, &mut bb) else {
+    let mut right = room();
+    let Some(b) = input.vector_line(&mut right) else {
         return texts::bad_line(out, 2);
     };
-    let Named::Is(op) = reading::operation_line(s, third) else {
+    let Some(op) = input.operation_line() else {
         return texts::bad_line(out, 3);
     };
-    if reading::goes_on(s, third) {
+    if input.goes_on() {
         return texts::bad_line(out, 4);
     }
-    operating::operate(
-        op,
-        dims_a,
-        &ia[..na],
-        &ba[..na],
-        dims_b,
-        &ib[..nb],
-        &bb[..nb],
-        out,
-    )
+    let a = OperandBorrowed {
+        dims: a.dims,
+        indexes: &left.indexes[..a.len],
+        bits: &left.bits[..a.len],
+    };
+    let b = OperandBorrowed {
+        dims: b.dims,
+        indexes: &right.indexes[..b.len],
+        bits: &right.bits[..b.len],
+    };
+    operating::operate(op, a, b, out)
 }
 
 // The same for the first n bytes of a list that has room for all bytes that matter.

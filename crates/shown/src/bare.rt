@@ -1,35 +1,38 @@
 // Prints answers with no space in front.
 
-use crate::text;
-use refusal::{Asked, Checked, Ordering};
+use crate::{number, text};
+use refusal::Refusal;
+use std::cmp::Ordering;
 
-pub fn refused(n: u32, p: usize) {
+pub fn refused(r: Refusal) {
     text(b"refused");
-    crate::number(n as u64);
-    crate::number(p as u64);
+    number(r.number() as u64);
+    number(r.place() as u64);
 }
 
-pub fn checked(r: Checked) {
+// What `show` prints of an answer, or the refusal.
+pub fn answered<T, F: FnOnce(T) + Drop>(r: Result<T, Refusal>, show: F)
+    requires { F.IsAlwaysCallable show }
+{
     match r {
-        Checked::Valid => text(b"valid"),
-        Checked::Refused(n, p) => refused(n, p),
+        Ok(x) => show(x),
+        Err(e) => refused(e),
     }
 }
 
-pub fn asked(r: Asked) {
-    match r {
-        Asked::Yes => text(b"yes"),
-        Asked::No => text(b"no"),
-        Asked::Refused(n, p) => refused(n, p),
-    }
+pub fn checked(r: Result<(), Refusal>) {
+    answered(r, |()| text(b"valid"));
 }
 
-pub fn ordering(r: Ordering) {
-    match r {
-        Ordering::Less => text(b"less"),
-        Ordering::Equal => text(b"equal"),
-        Ordering::Greater => text(b"greater"),
-        Ordering::Unordered => text(b"unordered"),
-        Ordering::Refused(n, p) => refused(n, p),
-    }
+pub fn asked(r: Result<bool, Refusal>) {
+    answered(r, |yes| if yes { text(b"yes") } else { text(b"no") });
+}
+
+pub fn ordering(r: Result<Option<Ordering>, Refusal>) {
+    answered(r, |order| match order {
+        Some(Ordering::Less) => text(b"less"),
+        Some(Ordering::Equal) => text(b"equal"),
+        Some(Ordering::Greater) => text(b"greater"),
+        None => text(b"unordered"),
+    });
 }

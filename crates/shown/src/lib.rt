@@ -4,7 +4,8 @@
 
 pub mod bare;
 
-use refusal::{Asked, Checked, Distance, Merged, Ordering, Written};
+use refusal::{Merged, Refusal, Written};
+use std::cmp::Ordering;
 
 // The file descriptor of the standard output.
 pub const STDOUT: i32 = 1;
@@ -28,16 +29,12 @@ pub fn number(n: u64) {
     digits(n);
 }
 
-fn pattern(n: u32) {
-    io::print_hex(STDOUT, n as u64, 8);
-}
-
 // The digits of a float's bits. Those of a NaN are not promised.
 pub fn bits(x: f32) {
-    if x != x {
+    if x.is_nan() {
         text(b"nan");
     } else {
-        pattern(patterns::bits(x));
+        io::print_hex(STDOUT, patterns::bits(x) as u64, 8);
     }
 }
 
@@ -55,69 +52,63 @@ pub fn entry(index: u32, value: f32) {
 
 // The first n entries of two lists, as far as the lists go.
 pub fn entries(indexes: &[u32], values: &[f32], n: usize) {
-    let mut at: usize = 0;
-    while at < n {
-        if indexes.len() <= at || values.len() <= at {
-            return;
-        }
-        entry(indexes[at], values[at]);
-        at += 1;
+    for (index, value) in indexes.iter().zip(values).take(n) {
+        entry(*index, *value);
     }
 }
 
-pub fn refused(n: u32, p: usize) {
+pub fn refused(r: Refusal) {
     text(b" ");
-    bare::refused(n, p);
+    bare::refused(r);
 }
 
-pub fn checked(r: Checked) {
+// A space, and what `show` prints of an answer, or the refusal.
+pub fn answered<T, F: FnOnce(T) + Drop>(r: Result<T, Refusal>, show: F)
+    requires { F.IsAlwaysCallable show }
+{
+    text(b" ");
+    bare::answered(r, show);
+}
+
+pub fn checked(r: Result<(), Refusal>) {
     text(b" ");
     bare::checked(r);
 }
 
-pub fn distance(r: Distance) {
-    match r {
-        Distance::Value(x) => {
-            text(b" value");
-            float(x);
-        }
-        Distance::Refused(n, p) => refused(n, p),
-    }
+pub fn distance(r: Result<f32, Refusal>) {
+    answered(r, |x| {
+        text(b"value");
+        float(x);
+    });
 }
 
-// A vector of so many words or entries.
+// A vector of so many words or entries, with no space in front.
 fn done(dims: u32, unit: &[u8], n: usize) {
-    text(b" done dims");
+    text(b"done dims");
     number(dims as u64);
     text(unit);
     number(n as u64);
 }
 
 // What was written, in words or in entries.
-pub fn written(r: Written, unit: &[u8]) {
-    match r {
-        Written::Done(dims, n) => done(dims, unit, n),
-        Written::Refused(n, p) => refused(n, p),
-    }
+pub fn written(r: Result<Written, Refusal>, unit: &[u8]) {
+    answered(r, |w| done(w.dims, unit, w.len));
 }
 
-pub fn merged(r: Merged) {
-    match r {
-        Merged::Done(dims, n, turns) => {
-            done(dims, b" entries", n);
-            text(b" turns");
-            number(turns as u64);
-        }
-        Merged::Refused(n, p) => refused(n, p),
-    }
+pub fn merged(r: Result<Merged, Refusal>) {
+    answered(r, |m| {
+        done(m.dims, b" entries", m.len);
+        text(b" turns");
+        number(m.turns as u64);
+    });
 }
 
-pub fn asked(r: Asked) {
+pub fn asked(r: Result<bool, Refusal>) {
     text(b" ");
     bare::asked(r);
 }
 
-pub fn ordering(r: Ordering) {
+pub fn ordering(r: Result<Option<Ordering>, Refusal>) {
     text(b" ");
     bare::ordering(r);
 }

@@ -1,10 +1,11 @@
 -- What a check answers, and what is known of a vector that passed. Assumes nothing.
-use Rattle.std.proofs.Common.{◌≡◌, ℕ, zero, suc, ◌+◌, ◌-◌, ◌<◌, ◌≤◌, true, false, not, eqb, leb, List, length, get_or, sym, ◌∙◌, ⊎_elim, true≢false, zero-le, le_of_suc-le-suc, eq-or-lt_of_le, arith, le-ltb, lt-ltb, eq-eqb, ne_eqb, eqb-true, leb-false}
+use Rattle.std.proofs.Common.{◌≡◌, ℕ, zero, suc, ◌+◌, ◌-◌, ◌<◌, ◌≤◌, true, false, not, Err, eqb, leb, List, length, get_or, sym, ◌∙◌, ⊎_elim, true≢false, zero-le, le_of_suc-le-suc, eq-or-lt_of_le, arith, le-ltb, lt-ltb, eq-eqb, ne_eqb, eqb-true, leb-false}
 use borrow.Author.Tests.{lt-leb, not-false}
 use Rattle.places.specs.Below.{any_below}
 use Rattle.places.specs.Search.{first_from}
 use Rattle.places.proofs.Below.{le_or_lt, any_false, any_none}
-use Rattle.refusal.specs.declared.Checked.TheVariants.{Valid, Refused}
+use Rattle.refusal.specs.Answers.{Valid}
+use Rattle.refusal.specs.declared.Refusal.TheVariants.{Dims, Length, Order, Index, Zero}
 use Rattle.refusal.proofs.Chains.{next_valid, refuse_valid, differ_valid}
 use Rattle.refusal.proofs.Dims.{in_range, range_in}
 use Rattle.sparse.specs.Vectors.{Vector, vector, size}
@@ -20,29 +21,29 @@ high_some d is e =
 
 -- ---- what is refused, test by test
 module _ (v : Vector) where
-  pub refused_dims : bad_dims v.dims ≡ true → checked_of v ≡ Refused 1 0
+  pub refused_dims : bad_dims v.dims ≡ true → checked_of v ≡ Err Dims
   unfolding checked_of
   refused_dims bad = rw bad
 
   module _ (l : 1 ≤ v.dims) (h : v.dims ≤ 1048575) where
-    pub refused_length : (size v ≡ length v.values → ⊥) → checked_of v ≡ Refused 2 0
+    pub refused_length : (size v ≡ length v.values → ⊥) → checked_of v ≡ Err Length
     unfolding checked_of
     refused_length other = rw (in_range 1048575 v.dims l h, ne_eqb (size v) (length v.values) other)
 
     module _ (even : size v ≡ length v.values) where
-      pub refused_order : any_below (falls v.indexes) (size v) ≡ true → checked_of v ≡ Refused 3 (first_from (falls v.indexes) (size v) 0)
+      pub refused_order : any_below (falls v.indexes) (size v) ≡ true → checked_of v ≡ Err (Order (first_from (falls v.indexes) (size v) 0))
       unfolding checked_of
       refused_order some = rw (in_range 1048575 v.dims l h, eq-eqb (size v) (length v.values) even, some)
 
       module _ (up : any_below (falls v.indexes) (size v) ≡ false) where
-        pub refused_index : too_high v.dims v.indexes ≡ true → checked_of v ≡ Refused 4 (size v - 1)
+        pub refused_index : too_high v.dims v.indexes ≡ true → checked_of v ≡ Err (Index (size v - 1))
         unfolding checked_of
         refused_index high =
             rw (in_range 1048575 v.dims l h, eq-eqb (size v) (length v.values) even, up, high)
 
         module _ (low : too_high v.dims v.indexes ≡ false) where
           pub refused_zero : any_below (zero_at v.values) (length v.values) ≡ true
-              → checked_of v ≡ Refused 5 (first_from (zero_at v.values) (length v.values) 0)
+              → checked_of v ≡ Err (Zero (first_from (zero_at v.values) (length v.values) 0))
           unfolding checked_of
           refused_zero some =
               rw (
@@ -103,11 +104,11 @@ below_all d is all =
 pub sound : (v : Vector) → checked_of v ≡ Valid → Sound v
 unfolding checked_of
 sound v passed =
-    let a = refuse_valid (bad_dims v.dims) 1 0 _ passed in
-    let b = refuse_valid (not (eqb (size v) (length v.values))) 2 0 _ a.1 in
-    let c = refuse_valid (any_below (falls v.indexes) (size v)) 3 _ _ b.1 in
-    let d = refuse_valid (too_high v.dims v.indexes) 4 _ _ c.1 in
-    let e = refuse_valid (any_below (zero_at v.values) (length v.values)) 5 _ _ d.1 in
+    let a = refuse_valid (bad_dims v.dims) Dims _ passed in
+    let b = refuse_valid (not (eqb (size v) (length v.values))) Length _ a.1 in
+    let c = refuse_valid (any_below (falls v.indexes) (size v)) _ _ b.1 in
+    let d = refuse_valid (too_high v.dims v.indexes) _ _ c.1 in
+    let e = refuse_valid (any_below (zero_at v.values) (length v.values)) _ _ d.1 in
     let up = steps_rise v.indexes (λ j l. any_false (falls v.indexes) (size v) j c.0 l) in
     let even = eqb-true (size v) (length v.values) (not-false (eqb (size v) (length v.values)) b.0) in
     record {

@@ -1,11 +1,9 @@
 -- When an entry's index falls: it is not above the one before. Assumes nothing.
-use Rattle.std.proofs.Common.{◌≡◌, ℕ, ◌+◌, ◌-◌, ◌%◌, ◌<◌, ◌≤◌, true, false, ltb, leb, List, length, get_or, sym, ◌∙◌, ⊎_elim, arith, below_more, le-ltb, lt-ltb, le-leb}
+use Rattle.std.proofs.Common.{◌≡◌, ℕ, ◌+◌, ◌-◌, ◌%◌, ◌<◌, ◌≤◌, true, false, leb, List, length, get_or, arith, below_more, le-ltb, lt-ltb, le-leb}
 use lib.Bits.{bit_and, bit_or, and_le_l, and_le_r, or_add_and}
 use borrow.Author.Tests.{lt-leb}
 use Rattle.places.specs.Below.{any_below}
-use Rattle.places.specs.Search.{first_from}
-use Rattle.places.proofs.Below.{any_none, le_or_lt}
-use Rattle.places.proofs.First.{some_first, none_first}
+use Rattle.places.proofs.Below.{any_none}
 use Rattle.sparse.specs.Calls.{falls}
 
 pub rises : (is : List ℕ) (i : ℕ) → 0 < i → get_or is (i - 1) 0 < get_or is i 0 → falls is i ≡ false
@@ -30,8 +28,8 @@ or_least : (a b : ℕ) → (a ≤ bit_or a b) × (b ≤ bit_or a b)
 or_least a b = (omega (arith, or_add_and a b, and_le_r a b), omega (arith, or_add_and a b, and_le_l a b))
 
 -- of two numbers below 2^31 the first less the second, modulo 2^32, is 2^31 at least only where the first is smaller
-wraps : (a b r : ℕ) → a < 2147483648 → b < 2147483648 → r < 4294967296 → 2147483648 ≤ r → (r + b) % 4294967296 ≡ a → a < b
-wraps a b r ha hb hr h e = omega (arith, e)
+wraps : (a b : ℕ) → a < 2147483648 → b < 2147483648 → 2147483648 ≤ (a + (4294967296 - b)) % 4294967296 → a < b
+wraps a b ha hb h = omega arith
 
 -- the indexes below i: if `all` is 2^31 at least and `any` is less, none falls
 pub record Risen (is : List ℕ) (all any i : ℕ) : Type 0 where
@@ -43,10 +41,12 @@ pub record Risen (is : List ℕ) (all any i : ℕ) : Type 0 where
 pub risen_start : (is : List ℕ) {all : ℕ} → 1 ≤ length is → Risen is all (get_or is 0 0) 1
 risen_start is h = record { some = omega arith; within = h; last = omega arith; none = λ a b k l. first_rises is k l }
 
-pub risen_more : {is : List ℕ} {all any i : ℕ} → Risen is all any i → i < length is → (r : ℕ) → r < 4294967296
-    → (r + get_or is i 0) % 4294967296 ≡ get_or is (i - 1) 0 → Risen is (bit_and all r) (bit_or any (get_or is i 0)) (i + 1)
-risen_more {is} {all} {any} {i} g h r fits e =
+pub risen_more : {is : List ℕ} {all any i : ℕ} → Risen is all any i → i < length is
+    → Risen is (bit_and all ((get_or is (i - 1) 0 + (4294967296 - get_or is i 0)) % 4294967296)) (bit_or any (get_or is i 0)) (i + 1)
+risen_more {is} {all} {any} {i} g h =
+    let before = get_or is (i - 1) 0 in
     let here = get_or is i 0 in
+    let r : ℕ = (before + (4294967296 - here)) % 4294967296 in
     let o = or_least any here in
     let same : i + 1 - 1 ≡ i = omega arith in
     record {
@@ -55,12 +55,5 @@ risen_more {is} {all} {any} {i} g h r fits e =
       last = rw same o.1;
       none = λ a b. below_more _ _ (g.none (omega (arith, and_le_l all r)) (omega (arith, o.0)))
           (rises is i (omega (arith, g.some))
-          (wraps (get_or is (i - 1) 0) here r (omega (arith, g.last, o.0)) (omega (arith, o.1)) fits (omega (arith, and_le_r all r)) e));
+          (wraps before here (omega (arith, g.last, o.0)) (omega (arith, o.1)) (omega (arith, and_le_r all r))));
     }
-
--- the first that falls tells whether one does
-pub first_tells : (is : List ℕ) (n r : ℕ) → r ≡ first_from (falls is) n 0 → ltb r n ≡ any_below (falls is) n
-first_tells is n r e =
-    rw e
-    (⊎_elim (λ h. le-ltb _ n h ∙ sym (none_first (falls is) n h)) (λ h. lt-ltb _ n h ∙ sym (some_first (falls is) n h))
-    (le_or_lt n (first_from (falls is) n 0)))

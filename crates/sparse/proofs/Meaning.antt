@@ -5,7 +5,7 @@ use lib.ListN.{get_or-append}
 use lib.Seq.{get_or-append_seam}
 use lib.Ieee.{Float, nan}
 use Rattle.places.proofs.Below.{le_or_lt}
-use Rattle.refusal.specs.declared.Checked.TheVariants.{Valid}
+use Rattle.refusal.specs.Answers.{Valid}
 use Rattle.sparse.specs.Calls.{zero_at, checked_of}
 use Rattle.sparse.specs.Cells.{is_zero, keep, look, index_of, value_of, indexes_below, values_below}
 use Rattle.sparse.specs.Vectors.{Vector, at, vector_of}

@@ -1,13 +1,12 @@
 -- Document 01, "What makes a vector valid", and what calls on sparse vectors refuse and write.
-use Rattle.std.specs.Prelude.{◌≡◌, ℕ, ◌-◌, Bool, not, ◌&&◌, ◌||◌, List, [], ◌∷◌, length, ◌==◌, nat_le, nat_lt, slice_index, slice_index_or, Float}
+use Rattle.std.specs.Prelude.{◌≡◌, ℕ, ◌-◌, Bool, not, ◌&&◌, ◌||◌, List, [], ◌∷◌, length, ◌==◌, nat_le, nat_lt, slice_index, slice_index_or, Float, Result}
 use Rattle.std.specs.Float.{nan}
 use Rattle.places.specs.Below.{any_below}
 use Rattle.places.specs.Search.{first_from}
-use Rattle.refusal.specs.Numbers.{DIMS, LENGTH, ORDER, INDEX, ZERO, DIFFER, ROOM}
 use Rattle.refusal.specs.Dims.{outside}
-use Rattle.refusal.specs.Answers.{refuse, next, Says, tells, Answers, leaves, written_says, written_of}
-use Rattle.refusal.specs.declared.Checked.{Checked}
-use Rattle.refusal.specs.declared.Checked.TheVariants.{Valid}
+use Rattle.refusal.specs.Answers.{Checked, Valid, refuse, next, Says, Answers, leaves, written_says, written}
+use Rattle.refusal.specs.declared.Refusal.{Refusal}
+use Rattle.refusal.specs.declared.Refusal.TheVariants.{Dims, Length, Order, Index, Zero, Differ, Room}
 use Rattle.refusal.specs.declared.Written.{Written}
 use Rattle.sparse.specs.Cells.{is_zero}
 use Rattle.sparse.specs.Vectors.{Vector, size}
@@ -29,15 +28,15 @@ abbrev pub zero_at : List Float → ℕ → Bool
 zero_at vs j = is_zero (slice_index_or vs j nan)
 
 -- "Sparse, tested in this order: dims in 1..=1,048,575; equally many indexes and values; indexes strictly increasing; last index below
--- dims; no value equal to zero of either sign. NaN and infinities pass." ORDER carries "the later entry of the first bad pair", INDEX
--- the "last entry", ZERO the "first such entry"
+-- dims; no value equal to zero of either sign. NaN and infinities pass." Order carries "the later entry of the first bad pair", Index
+-- the "last entry", Zero the "first such entry"
 unfoldable pub checked_of : Vector → Checked
 checked_of v =
-    refuse (bad_dims v.dims) DIMS 0
-    (refuse (not (size v == length v.values)) LENGTH 0
-    (refuse (any_below (falls v.indexes) (size v)) ORDER (first_from (falls v.indexes) (size v) 0)
-    (refuse (too_high v.dims v.indexes) INDEX (size v - 1)
-    (refuse (any_below (zero_at v.values) (length v.values)) ZERO (first_from (zero_at v.values) (length v.values) 0)
+    refuse (bad_dims v.dims) Dims
+    (refuse (not (size v == length v.values)) Length
+    (refuse (any_below (falls v.indexes) (size v)) (Order (first_from (falls v.indexes) (size v) 0))
+    (refuse (too_high v.dims v.indexes) (Index (size v - 1))
+    (refuse (any_below (zero_at v.values) (length v.values)) (Zero (first_from (zero_at v.values) (length v.values) 0))
     Valid))))
 
 -- "Left vector first (1 to 6), then right"
@@ -46,19 +45,19 @@ each_of a b = next (checked_of a) (checked_of b)
 
 -- "then 7"
 abbrev pub pair_of : Vector → Vector → Checked
-pair_of a b = next (each_of a b) (refuse (not (a.dims == b.dims)) DIFFER 0 Valid)
+pair_of a b = next (each_of a b) (refuse (not (a.dims == b.dims)) Differ Valid)
 
 -- "output .. too short": one of two lists of so many indexes and values has no room for n entries; carried are the entries needed
 abbrev pub room_of : ℕ → ℕ → ℕ → Checked
-room_of n indexes values = refuse (nat_lt indexes n || nat_lt values n) ROOM n Valid
+room_of n indexes values = refuse (nat_lt indexes n || nat_lt values n) (Room n) Valid
 
 -- a call answers, and leaves the vector v in a lent pair of lists, in front of what stood there; or the lists as they were
-pub record WritesPair {A : Type 0} (says_of : A → Says) (numbers : List ℕ) (give : Checked → A) (due : Checked) (v : Vector)
-    (oi : List ℕ) (ov : List Float) (r : A) (oi' : List ℕ) (ov' : List Float) : Type 0 where
-  pub answer : Answers says_of (tells numbers []) give due r
+pub record WritesPair {A : Type 0} (says_of : Result A Refusal → Says) (numbers : List ℕ) (x : A) (due : Checked) (v : Vector)
+    (oi : List ℕ) (ov : List Float) (r : Result A Refusal) (oi' : List ℕ) (ov' : List Float) : Type 0 where
+  pub answer : Answers says_of numbers [] x due r
   pub indexes : oi' ≡ leaves due v.indexes oi
   pub values : ov' ≡ leaves due v.values ov
 
 -- the vector v is written
-abbrev pub Leaves : Checked → Vector → List ℕ → List Float → Written → List ℕ → List Float → Type 0
-Leaves due v = WritesPair written_says (v.dims ∷ size v ∷ []) (written_of v.dims (size v)) due v
+abbrev pub Leaves : Checked → Vector → List ℕ → List Float → Result Written Refusal → List ℕ → List Float → Type 0
+Leaves due v = WritesPair written_says (v.dims ∷ size v ∷ []) (written v.dims (size v)) due v

@@ -2,6 +2,7 @@
 use Rattle.std.specs.Prelude.{ℕ, Bool, ◌||◌, List, length, Float}
 use Rattle.sparse.specs.Cells.{full, look, indexes_below, values_below}
 use Rattle.sparse.specs.declared.Cell.{Cell}
+use Rattle.sparse.specs.declared.SVectBorrowed.{SVectBorrowed}
 
 pub record Vector : Type 0 where
   pub dims : ℕ
@@ -10,6 +11,10 @@ pub record Vector : Type 0 where
 
 abbrev pub vector : ℕ → List ℕ → List Float → Vector
 vector d is vs = record { dims = d; indexes = is; values = vs }
+
+-- a vector as a call is handed it
+abbrev pub seen : SVectBorrowed → Vector
+seen a = vector a.dims a.indexes.now a.values.now
 
 -- the number of entries
 abbrev pub size : Vector → ℕ

@@ -1,12 +1,9 @@
 -- The order of dense vectors, by the lowest place at which they differ. Assumes nothing.
-use Prim.Native.Nat.{ℕ, ◌≤◌, ◌<◌}
-use native.Mathlib.Omega.{arith}
-use mathlib.Core.Bool.{Bool, true, false, not}
-use mathlib.Core.Path.{◌≡◌, ap}
+use Rattle.std.proofs.Common.{◌≡◌, ℕ, ◌≤◌, ◌<◌, Bool, true, false, not, Some, ap, arith, lt-ltb, le-ltb}
+use Rattle.std.specs.declared.cmp.Ordering.TheVariants.{Equal}
 use lib.Ieee.{Float, eq}
-use borrow.Author.Tests.{lt-ltb, le-ltb, not-true, not-false}
+use borrow.Author.Tests.{not-true, not-false}
 use Rattle.places.proofs.First.{found, none, before, hit}
-use Rattle.refusal.specs.declared.Ordering.TheVariants.{Equal}
 use Rattle.sparse_orders.specs.Dense.{first_apart, dense_order}
 use Rattle.sparse_orders.specs.Orders.{compared}
 
@@ -20,7 +17,7 @@ module _ (d : ℕ) (f g : ℕ → Float) where
       let e : first_apart d f g ≡ k = found unlike d 0 k (λ j a b. ap not (all j b)) (ap not other) (omega arith) (omega arith) in
       rw (e, lt-ltb k d l)
 
-  pub dense_equal : ((j : ℕ) → j < d → eq (f j) (g j) ≡ true) → dense_order d f g ≡ Equal
+  pub dense_equal : ((j : ℕ) → j < d → eq (f j) (g j) ≡ true) → dense_order d f g ≡ Some Equal
   dense_equal all =
       let e : first_apart d f g ≡ d = omega (arith, none unlike d 0 (λ j a b. ap not (all j (omega arith)))) in
       rw (e, le-ltb d d (omega arith))
@@ -38,5 +35,5 @@ module _ (d : ℕ) (f g : ℕ → Float) where
   pub dense_there : m < d → dense_order d f g ≡ compared (f m) (g m)
   dense_there h = dense_apart m equal_before h (apart_there h)
 
-  pub dense_nowhere : d ≤ m → dense_order d f g ≡ Equal
+  pub dense_nowhere : d ≤ m → dense_order d f g ≡ Some Equal
   dense_nowhere h = dense_equal (λ j l. equal_before j (omega arith))

@@ -1,20 +1,16 @@
 -- The order of two valid vectors of equal dims is that of the dense vectors: at the first entries that are not the same, the lower of their
 -- places is the lowest at which the dense vectors differ. Assumes nothing.
-use Prim.Native.Nat.{ℕ, suc, min, ◌≤◌, ◌<◌}
-use native.Mathlib.Nat.{eq-or-lt_of_le, min-le_left, min-le_right, le-min}
-use native.Mathlib.Omega.{arith}
-use mathlib.Core.Bool.{Bool, true, false, true≢false, not, cond}
-use mathlib.Core.Logic.{◌⊎◌, ⊎_elim}
-use mathlib.Core.Path.{◌≡◌, refl, sym, ap, ◌∙◌}
-use lib.Dec.{eqb}
+use Rattle.std.proofs.Common.{◌≡◌, ℕ, suc, min, ◌≤◌, ◌<◌, Bool, true, false, not, cond, eqb, ◌⊎◌, Option, Some, None, Result, Ok, refl, sym, ap, ◌∙◌, ⊎_elim, true≢false, eq-or-lt_of_le, arith, lt-ltb, le-ltb, eq-eqb, ne_eqb, eqb-true}
+use native.Mathlib.Nat.{le-min, min-le_left, min-le_right}
 use lib.Ieee.{Float, of_bits, eq, lt, is_nan}
-use borrow.Author.Tests.{lt-ltb, le-ltb, eq-eqb, ne_eqb, eqb-true, eqb-false, not-true}
+use borrow.Author.Tests.{eqb-false, not-true}
+use Rattle.std.specs.declared.cmp.Ordering.{Ordering}
+use Rattle.std.specs.declared.cmp.Ordering.TheVariants.{Less, Equal, Greater}
 use Rattle.places.specs.Search.{first_from}
 use Rattle.places.proofs.Below.{le_or_lt}
 use Rattle.places.proofs.First.{before, most, hit}
-use Rattle.refusal.specs.declared.Checked.TheVariants.{Valid}
-use Rattle.refusal.specs.declared.Ordering.{Ordering}
-use Rattle.refusal.specs.declared.Ordering.TheVariants.{Less, Equal, Greater, Unordered}
+use Rattle.refusal.specs.Answers.{Valid}
+use Rattle.refusal.specs.declared.Refusal.{Refusal}
 use Rattle.sparse.specs.Calls.{checked_of}
 use Rattle.sparse.specs.Cells.{zero32}
 use Rattle.sparse.specs.Sound.{Split, Sound}
@@ -64,14 +60,14 @@ module _ (v : Vector) (s : Sound v) (p k : ℕ) (within : p ≤ size v) (low : (
 alone_compared : (x y : Float) → eq x y ≡ false → alone x y ≡ compared x y
 alone_compared x y e = rw e
 
-compared_equal : (x y : Float) → compared x y ≡ Equal → eq x y ≡ true
+compared_equal : (x y : Float) → compared x y ≡ Some Equal → eq x y ≡ true
 compared_equal x y h = go (lt x y) (lt y x) (eq x y) h
   where
-    go : (p q e : Bool) → cond p Less (cond q Greater (cond e Equal Unordered)) ≡ Equal → e ≡ true
-    go true q e h = let z : ◌≡◌ {A = ℕ} 0 1 = cc in absurd (omega arith)
-    go false true e h = let z : ◌≡◌ {A = ℕ} 0 1 = cc in absurd (omega arith)
+    go : (p q e : Bool) → cond p (Some Less) (cond q (Some Greater) (cond e (Some Equal) None)) ≡ Some Equal → e ≡ true
+    go true q e h = absurd cc
+    go false true e h = absurd cc
     go false false true h = refl
-    go false false false h = let z : ◌≡◌ {A = ℕ} 0 1 = cc in absurd (omega arith)
+    go false false false h = absurd cc
 
 -- ---- two vectors of which the first p entries are the same
 
@@ -120,12 +116,12 @@ module _ (a b : Vector) (sa : Sound a) (sb : Sound b) (p : ℕ) (same : SameFirs
 -- ---- what decides
 
 module _ (a b : Vector) (sa : Sound a) (sb : Sound b) (equal : a.dims ≡ b.dims) where
-  abbrev owed : Ordering
+  abbrev owed : Option Ordering
   owed = dense_order a.dims (dense a) (dense b)
 
   -- both lists have ended; or values decide that are not equal, and that is the dense order
-  data Decision (p : ℕ) : Ordering → Type 0 where
-    ended : size a ≤ p → size b ≤ p → Decision p Equal
+  data Decision (p : ℕ) : Option Ordering → Type 0 where
+    ended : size a ≤ p → size b ≤ p → Decision p (Some Equal)
     by : (x y : Float) → eq x y ≡ false → compared x y ≡ owed → Decision p (compared x y)
 
   module _ (p : ℕ) (same : SameFirst a b p) (pa : p ≤ size a) (pb : p ≤ size b) where
@@ -182,7 +178,7 @@ module _ (a b : Vector) (sa : Sound a) (sb : Sound b) (equal : a.dims ≡ b.dims
         (le_or_lt (size b) p))
         (le_or_lt (size a) p)
 
-    decision_dense : {o : Ordering} → Decision p o → o ≡ owed
+    decision_dense : {o : Option Ordering} → Decision p o → o ≡ owed
     decision_dense (by x y e o) = o
     decision_dense (ended ea eb) =
         let d = a.dims in
@@ -191,7 +187,7 @@ module _ (a b : Vector) (sa : Sound a) (sb : Sound b) (equal : a.dims ≡ b.dims
         sym (dense_equal d (dense a) (dense b) (alike a b sa sb p same pa pb d ca cb))
 
     -- and only where both have ended they are equal
-    decision_equal : {o : Ordering} → Decision p o → o ≡ Equal → same_entries a b ≡ true
+    decision_equal : {o : Option Ordering} → Decision p o → o ≡ Some Equal → same_entries a b ≡ true
     decision_equal (by x y e o) h = absurd (true≢false (sym (compared_equal x y h) ∙ e))
     decision_equal (ended ea eb) h = none_other a b (omega arith) (omega (arith, all_same a b (size a) (λ k l. same k (omega arith))))
 
@@ -219,24 +215,24 @@ module _ (a b : Vector) (sa : Sound a) (sb : Sound b) (equal : a.dims ≡ b.dims
   order_dense : order_by a b ≡ owed
   order_dense = decision_dense first first_same first_left first_right first_decision
 
-  pub order_equal : order_by a b ≡ Equal → same_entries a b ≡ true
+  pub order_equal : order_by a b ≡ Some Equal → same_entries a b ≡ true
   order_equal = decision_equal first first_same first_left first_right first_decision
 
 -- ---- the calls
 
 -- two valid vectors of equal dims
-module _ (a b : Vector) {r : Ordering} (call : Compares a b r) (va : checked_of a ≡ Valid) (vb : checked_of b ≡ Valid) (equal : a.dims ≡ b.dims) where
+module _ (a b : Vector) {r : Result (Option Ordering) Refusal} (call : Compares a b r) (va : checked_of a ≡ Valid) (vb : checked_of b ≡ Valid) (equal : a.dims ≡ b.dims) where
   -- the answer is that of the dense vectors, with a NaN and without
-  pub dense_answer : r ≡ dense_order a.dims (dense a) (dense b)
-  dense_answer = valid_answer a b call va vb ∙ rw (eq-eqb a.dims b.dims equal) (order_dense a b (sound a va) (sound b vb) equal)
+  pub dense_answer : r ≡ Ok (dense_order a.dims (dense a) (dense b))
+  dense_answer = valid_answer a b call va vb ∙ rw (eq-eqb a.dims b.dims equal) (ap Ok (order_dense a b (sound a va) (sound b vb) equal))
 
   -- what stands at the lowest place at which they differ decides, whatever stands behind it
   module _ (k : ℕ) (inside : k < a.dims) (all : (j : ℕ) → j < k → eq (dense a j) (dense b j) ≡ true) where
-    pub first_decides : eq (dense a k) (dense b k) ≡ false → r ≡ compared (dense a k) (dense b k)
-    first_decides other = dense_answer ∙ dense_apart a.dims (dense a) (dense b) k all inside other
+    pub first_decides : eq (dense a k) (dense b k) ≡ false → r ≡ Ok (compared (dense a k) (dense b k))
+    first_decides other = dense_answer ∙ ap Ok (dense_apart a.dims (dense a) (dense b) k all inside other)
 
     -- and where that is a NaN, on either side or on both, there is no order
-    pub nan_decides : (is_nan (dense a k) ≡ true) ⊎ (is_nan (dense b k) ≡ true) → r ≡ Unordered
+    pub nan_decides : (is_nan (dense a k) ≡ true) ⊎ (is_nan (dense b k) ≡ true) → r ≡ Ok None
     nan_decides some =
         let n = nan_apart (dense a k) (dense b k) some in
         first_decides n.2 ∙ rw (n.0, n.1, n.2)

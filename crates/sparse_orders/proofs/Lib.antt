@@ -1,6 +1,5 @@
 -- Laws of equality and order of sparse vectors.
 pub mod Others
-pub mod Fair
 pub mod Meaning
 pub mod Floats
 pub mod Mirror

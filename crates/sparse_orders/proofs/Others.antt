@@ -1,17 +1,11 @@
 -- Entries that are not the same, and what the first of them tells of two vectors. Assumes nothing.
-use Prim.Native.Nat.{ℕ, ◌+◌, ◌≤◌, ◌<◌}
-use native.Mathlib.Omega.{arith}
-use mathlib.Core.Bool.{true, false, not}
-use mathlib.Core.Path.{◌≡◌, sym, ◌∙◌}
-use lib.Dec.{eqb}
+use Rattle.std.proofs.Common.{◌≡◌, ℕ, ◌+◌, ◌≤◌, ◌<◌, true, false, not, eqb, sym, ◌∙◌, arith, below_more, eq-eqb, ne_eqb, eqb-true}
 use lib.Ieee.{eq, ne}
-use borrow.Author.Count.{below_more}
-use borrow.Author.Tests.{eq-eqb, ne_eqb, eqb-true, not-false}
+use borrow.Author.Tests.{not-false}
 use Rattle.places.proofs.Below.{and_true}
-use Rattle.places.proofs.First.{found, none, some_first, none_first}
+use Rattle.places.proofs.First.{found, none, none_first}
 use Rattle.sparse.specs.Vectors.{Vector, size}
-use Rattle.sparse.specs.Sound.{Sound}
-use Rattle.sparse_orders.specs.Loops.{entries, Reach, first_other}
+use Rattle.sparse_orders.specs.Loops.{first_other}
 use Rattle.sparse_orders.specs.Orders.{index_at, value_at, same_entry, same_entries}
 
 -- the first n entries are the same
@@ -49,16 +43,5 @@ module _ (a b : Vector) where
 
   -- ---- equality
 
-  pub other_size : (size a ≡ size b → ⊥) → same_entries a b ≡ false
-  other_size h = rw (ne_eqb (size a) (size b) h)
-
-  pub some_other : size a ≡ size b → first_other a b (size a) < size a → same_entries a b ≡ false
-  some_other e h = rw (eq-eqb (size a) (size b) e, some_first (λ i. not (same_entry a b i)) (size a) h)
-
   pub none_other : size a ≡ size b → size a ≤ first_other a b (size a) → same_entries a b ≡ true
   none_other e h = rw (eq-eqb (size a) (size b) e, none_first (λ i. not (same_entry a b i)) (size a) h)
-
--- vectors that passed have their values beside their indexes
-pub reach : {a b : Vector} {n : ℕ} → Sound a × Sound b → n ≤ size a → n ≤ size b
-    → Reach (entries a.indexes a.values) (entries b.indexes b.values) n
-reach s l r = record { left = l; left' = omega (arith, s.0.even); right = r; right' = omega (arith, s.1.even) }

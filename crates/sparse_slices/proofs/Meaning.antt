@@ -1,8 +1,6 @@
 -- What a slice means: it is a valid vector that holds what stands at its places. Assumes nothing.
-use Prim.Native.Nat.{ℕ, ◌+◌, ◌-◌, ◌≤◌, ◌<◌}
-use native.Mathlib.Omega.{arith}
-use mathlib.Core.Path.{◌≡◌}
-use Rattle.refusal.specs.declared.Checked.TheVariants.{Valid}
+use Rattle.std.proofs.Common.{◌≡◌, ℕ, ◌+◌, ◌-◌, ◌≤◌, ◌<◌, arith}
+use Rattle.refusal.specs.Answers.{Valid}
 use Rattle.sparse.specs.Calls.{checked_of}
 use Rattle.sparse.specs.Vectors.{Vector, at}
 use Rattle.sparse.specs.Sound.{Sound}

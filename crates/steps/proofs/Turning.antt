@@ -1,39 +1,52 @@
 -- A turn of a sum, a difference or a product, by whichever way. Assumes nothing.
-use Prim.Native.Nat.{ℕ, ◌+◌, ◌≤◌, ◌<◌}
-use native.Mathlib.Omega.{arith}
-use mathlib.Core.Bool.{Bool, true, false, cond}
-use mathlib.Core.List.{List}
-use mathlib.Core.Logic.{⊎_elim}
-use mathlib.Core.Path.{◌≡◌, refl, sym}
+use Rattle.std.proofs.Common.{◌≡◌, ℕ, ◌+◌, ◌≤◌, ◌<◌, min, cond, ltb, leb, eqb, List, length, get_or, set, refl, sym, ⊎_elim, arith, length-set}
+use Rattle.std.specs.Float.{Float, nan}
 use mir.Val.{bool_byte}
-use lib.Dec.{ltb, leb, eqb}
-use lib.ListN.{length, get_or, set, length-set}
-use lib.Ieee.{Float, nan}
 use Rattle.sparse.specs.Cells.{keep}
 use Rattle.sparse.specs.declared.Cell.{Cell}
 use Rattle.sparse.specs.declared.Cell.TheVariants.{Empty, Full}
+use Rattle.walks.specs.declared.Walk.{Walk}
 use Rattle.walks.specs.Walk.{turn, Taken, Put, put_index, put_value}
 use Rattle.walks.proofs.Choices.{left_first, right_first, at_once, whichever}
 use Rattle.walks.proofs.Turns.{to_left, to_right, to_both}
 use Rattle.steps.specs.Places.{multiplied}
 use Rattle.steps.specs.Turns.{sum_of, alone_of, met_of, Steady, Stores, Stepped, step}
+use Rattle.steps.specs.declared.Sign.{Sign}
+use Rattle.steps.specs.declared.Sign.TheVariants.{Plus, Minus}
 use Rattle.steps.specs.declared.Step.{Step}
 
 -- ---- what the three kinds of places come to
-left_alone : (negate : Bool) (x : Float) → sum_of negate (Full x) Empty ≡ Full x
-left_alone true x = refl
-left_alone false x = refl
+left_alone : (sign : Sign) (x : Float) → sum_of sign (Full x) Empty ≡ Full x
+left_alone Minus x = refl
+left_alone Plus x = refl
 
-right_alone : (negate : Bool) (y : Float) → sum_of negate Empty (Full y) ≡ Full (alone_of negate y)
-right_alone true y = refl
-right_alone false y = refl
+right_alone : (sign : Sign) (y : Float) → sum_of sign Empty (Full y) ≡ Full (alone_of sign y)
+right_alone Minus y = refl
+right_alone Plus y = refl
 
-pub both_met : (negate : Bool) (x y : Float) → sum_of negate (Full x) (Full y) ≡ keep (met_of negate x y)
-both_met true x y = refl
-both_met false x y = refl
+pub both_met : (sign : Sign) (x y : Float) → sum_of sign (Full x) (Full y) ≡ keep (met_of sign x y)
+both_met Minus x y = refl
+both_met Plus x y = refl
 
-module _ {is : List ℕ} {vs : List Float} {p : ℕ} {js : List ℕ} {ws : List Float} {q n : ℕ} {oi : List ℕ} {ov : List Float}
-    (s : Steady is vs p js ws q n oi ov) where
+module _ {w : Walk} {n : ℕ} {oi : List ℕ} {ov : List Float} (s : Steady w n oi ov) where
+  abbrev is : List ℕ
+  is = w.a.indexes.now
+
+  abbrev vs : List Float
+  vs = w.a.values.now
+
+  abbrev p : ℕ
+  p = w.p
+
+  abbrev js : List ℕ
+  js = w.b.indexes.now
+
+  abbrev ws : List Float
+  ws = w.b.values.now
+
+  abbrev q : ℕ
+  q = w.q
+
   abbrev i : ℕ
   i = get_or is p 0
 
@@ -49,7 +62,7 @@ module _ {is : List ℕ} {vs : List Float} {p : ℕ} {js : List ℕ} {ws : List 
   -- both sides are at one place
   pub met_stepped : {join : Cell → Cell → Cell} → p < length is → q < length js → j ≡ i → {z : Cell} → z ≡ join (Full x) (Full y)
       → {n' : ℕ} {oi' : List ℕ} {ov' : List Float} → Put z i n oi ov n' oi' ov'
-      → Stepped join is vs p js ws q n oi ov (step (p + 1) (q + 1) n') oi' ov'
+      → Stepped join w n oi ov (step (p + 1) (q + 1) n') oi' ov'
   met_stepped l r e same put =
       record {
         turn = turn i (Full x) (Full y) (p + 1) (q + 1);
@@ -62,7 +75,7 @@ module _ {is : List ℕ} {vs : List Float} {p : ℕ} {js : List ℕ} {ws : List 
 
   -- a product has nothing where they are at two
   pub none_stepped : p < length is → q < length js → (i ≡ j → ⊥)
-      → Stepped multiplied is vs p js ws q n oi ov (step (p + bool_byte (ltb i j)) (q + bool_byte (ltb j i)) n) oi ov
+      → Stepped multiplied w n oi ov (step (p + bool_byte (ltb i j)) (q + bool_byte (ltb j i)) n) oi ov
   none_stepped l r other =
       whichever i j
       (λ less.
@@ -92,42 +105,45 @@ module _ {is : List ℕ} {vs : List Float} {p : ℕ} {js : List ℕ} {ws : List 
       }))
 
   -- the turn without a branch
-  pub stored : (negate : Bool) → Stores negate is vs p js ws q
-      → Stepped (sum_of negate) is vs p js ws q n oi ov (step (p + bool_byte (leb i j)) (q + bool_byte (leb j i)) (n + 1))
-      (set oi n (cond (ltb i j) i j))
-      (set ov n (cond (eqb i j) (met_of negate x y) (cond (ltb i j) x (alone_of negate y))))
-  stored negate h =
+  pub stored : (sign : Sign) → Stores sign w
+      → Stepped (sum_of sign) w n oi ov (step (p + bool_byte (leb i j)) (q + bool_byte (leb j i)) (n + 1))
+      (set oi n (min i j))
+      (set ov n (cond (eqb i j) (met_of sign x y) (cond (ltb i j) x (alone_of sign y))))
+  stored sign h =
       whichever i j
       (λ less.
       let b = left_first i j less in
-      rw (b.0, b.1, b.2, b.3)
+      let m : min i j ≡ i = omega arith in
+      rw (m, b.0, b.1, b.2, b.3)
       (record {
         turn = turn i (Full x) Empty (p + 1) q;
         more = s.standing.more;
         turned = to_left h.left (λ k. less);
-        put = rw (left_alone negate x) (record { count = refl; indexes = refl; values = refl });
+        put = rw (left_alone sign x) (record { count = refl; indexes = refl; values = refl });
         left = refl;
         right = omega arith;
       }))
       (λ e.
       let b = at_once i j e in
-      rw (b.0, b.1, b.2, b.3)
+      let m : min i j ≡ j = omega arith in
+      rw (m, b.0, b.1, b.2, b.3)
       (record {
         turn = turn i (Full x) (Full y) (p + 1) (q + 1);
         more = s.standing.more;
         turned = to_both h.left h.right (sym e);
-        put = rw (both_met negate x y, h.some e) (record { count = refl; indexes = rw e; values = refl });
+        put = rw (both_met sign x y, h.some e) (record { count = refl; indexes = rw e; values = refl });
         left = refl;
         right = refl;
       }))
       (λ less.
       let b = right_first i j less in
-      rw (b.0, b.1, b.2, b.3)
+      let m : min i j ≡ j = omega arith in
+      rw (m, b.0, b.1, b.2, b.3)
       (record {
         turn = turn j Empty (Full y) p (q + 1);
         more = s.standing.more;
         turned = to_right h.right (λ k. less);
-        put = rw (right_alone negate y) (record { count = refl; indexes = refl; values = refl });
+        put = rw (right_alone sign y) (record { count = refl; indexes = refl; values = refl });
         left = omega arith;
         right = refl;
       }))
@@ -148,25 +164,25 @@ put_value_length : (z : Cell) (l : List Float) (n : ℕ) → length (put_value z
 put_value_length Empty l n = refl
 put_value_length (Full v) l n = length-set l n v
 
-module _ {join : Cell → Cell → Cell} {is : List ℕ} {vs : List Float} {p : ℕ} {js : List ℕ} {ws : List Float} {q n : ℕ} {oi : List ℕ}
-    {ov : List Float} {r : Step} {oi' : List ℕ} {ov' : List Float} (s : Stepped join is vs p js ws q n oi ov r oi' ov') where
+module _ {join : Cell → Cell → Cell} {w : Walk} {n : ℕ} {oi : List ℕ} {ov : List Float} {r : Step} {oi' : List ℕ} {ov' : List Float}
+    (s : Stepped join w n oi ov r oi' ov') where
   pub index_length : length oi' ≡ length oi
   index_length = rw s.put.indexes (put_index_length (join s.turn.x s.turn.y) oi n s.turn.place)
 
   pub value_length : length ov' ≡ length ov
   value_length = rw s.put.values (put_value_length (join s.turn.x s.turn.y) ov n)
 
-  pub left_within : p ≤ length is → (r.p ≤ length is) × (r.p ≤ p + 1)
-  left_within h = rw s.left (taken_within is vs p s.turn.place s.turn.x s.turn.p h s.turned.left)
+  pub left_within : w.p ≤ length w.a.indexes.now → (r.p ≤ length w.a.indexes.now) × (r.p ≤ w.p + 1)
+  left_within h = rw s.left (taken_within w.a.indexes.now w.a.values.now w.p s.turn.place s.turn.x s.turn.p h s.turned.left)
 
-  pub right_within : q ≤ length js → (r.q ≤ length js) × (r.q ≤ q + 1)
-  right_within h = rw s.right (taken_within js ws q s.turn.place s.turn.y s.turn.q h s.turned.right)
+  pub right_within : w.q ≤ length w.b.indexes.now → (r.q ≤ length w.b.indexes.now) × (r.q ≤ w.q + 1)
+  right_within h = rw s.right (taken_within w.b.indexes.now w.b.values.now w.q s.turn.place s.turn.y s.turn.q h s.turned.right)
 
-  pub left_on : p ≤ r.p
-  left_on = rw s.left (taken_on is vs p s.turn.place s.turn.x s.turn.p s.turned.left)
+  pub left_on : w.p ≤ r.p
+  left_on = rw s.left (taken_on w.a.indexes.now w.a.values.now w.p s.turn.place s.turn.x s.turn.p s.turned.left)
 
-  pub right_on : q ≤ r.q
-  right_on = rw s.right (taken_on js ws q s.turn.place s.turn.y s.turn.q s.turned.right)
+  pub right_on : w.q ≤ r.q
+  right_on = rw s.right (taken_on w.b.indexes.now w.b.values.now w.q s.turn.place s.turn.y s.turn.q s.turned.right)
 
-  pub passes : p + q < r.p + r.q
+  pub passes : w.p + w.q < r.p + r.q
   passes = omega (arith, s.turned.some, s.left, s.right)

@@ -6,8 +6,8 @@ use mathlib.Core.List.{List}
 use mathlib.Core.Path.{◌≡◌, refl, ◌∙◌}
 use lib.ListN.{length}
 use lib.Ieee.{Float}
-use Rattle.strides.specs.Strides.{Meeting, Stepped, step, Chain, none, more, Ample}
-use Rattle.strides.specs.declared.Step.{Step}
+use Rattle.strides.specs.Strides.{Meeting, Stepped, Chain, none, more, Ample}
+use Rattle.copies.specs.declared.Step.{Step}
 use Rattle.strides.proofs.Steps.{next_most, next_passed, same_lengths}
 
 -- what every turn keeps holds after many
@@ -26,22 +26,22 @@ chain_passed {s = s} c =
     chain_keeps (λ k t x w. s.at + s.q ≤ t.at + t.q) (λ k t x w u x' w' p m. omega (arith, p, next_passed m)) (omega arith) c
 
 -- ---- a loop that takes up to k turns: `taken` of them lead from where it began to where it is
-pub record Runs (si : List ℕ) (sv : List Float) (at cap n : ℕ) (ib : List ℕ) (vb : List Float) (q : ℕ) (si' : List ℕ) (sv' : List Float)
-    (u v m taken : ℕ) : Type 0 where
-  pub chain : Chain cap ib vb taken (step at q n) si sv (step u v m) si' sv'
+pub record Runs (si : List ℕ) (sv : List Float) (s : Step) (cap : ℕ) (ib : List ℕ) (vb : List Float) (si' : List ℕ) (sv' : List Float)
+    (t : Step) (taken : ℕ) : Type 0 where
+  pub chain : Chain cap ib vb taken s si sv t si' sv'
   pub long : length si' ≡ length si
   pub long' : length sv' ≡ length sv
-  pub left : u ≤ at + taken
-  pub right : v ≤ q + taken
-  pub wrote : m ≤ n + taken
+  pub left : t.at ≤ s.at + taken
+  pub right : t.q ≤ s.q + taken
+  pub wrote : t.n ≤ s.n + taken
 
-module _ {si : List ℕ} {sv : List Float} {at cap n : ℕ} {ib : List ℕ} {vb : List Float} {q : ℕ} where
-  pub runs_start : Runs si sv at cap n ib vb q si sv at q n 0
+module _ {si : List ℕ} {sv : List Float} {s : Step} {cap : ℕ} {ib : List ℕ} {vb : List Float} where
+  pub runs_start : Runs si sv s cap ib vb si sv s 0
   runs_start = record { chain = none; long = refl; long' = refl; left = omega arith; right = omega arith; wrote = omega arith }
 
-  module _ {si' : List ℕ} {sv' : List Float} {u v m taken : ℕ} (g : Runs si sv at cap n ib vb q si' sv' u v m taken) where
+  module _ {si' : List ℕ} {sv' : List Float} {t : Step} {taken : ℕ} (g : Runs si sv s cap ib vb si' sv' t taken) where
     -- both sides have an entry left, and there is room
-    pub runs_meeting : {k : ℕ} → Ample si sv at cap n ib vb q k → taken < k → Meeting si' sv' u cap m ib vb v
+    pub runs_meeting : {k : ℕ} → Ample si sv s.at cap s.n ib vb s.q k → taken < k → Meeting si' sv' t.at cap t.n ib vb t.q
     runs_meeting a h = record {
       left = omega (arith, g.left, a.left);
       right = omega (arith, g.right, a.right);
@@ -52,13 +52,13 @@ module _ {si : List ℕ} {sv : List Float} {at cap n : ℕ} {ib : List ℕ} {vb 
       room' = omega (arith, g.wrote, g.long', a.clear, a.left, a.long');
     }
 
-    pub runs_more : {r : Step} {si'' : List ℕ} {sv'' : List Float} → Stepped si' sv' u cap m ib vb v r si'' sv''
-        → Runs si sv at cap n ib vb q si'' sv'' r.at r.q r.n (taken + 1)
-    runs_more s =
-        let most = next_most s in
-        let same = same_lengths s in
+    pub runs_more : {r : Step} {si'' : List ℕ} {sv'' : List Float} → Stepped si' sv' t.at cap t.n ib vb t.q r si'' sv''
+        → Runs si sv s cap ib vb si'' sv'' r (taken + 1)
+    runs_more m =
+        let most = next_most m in
+        let same = same_lengths m in
         record {
-          chain = rw add-one (more g.chain s);
+          chain = rw add-one (more g.chain m);
           long = same.0 ∙ g.long;
           long' = same.1 ∙ g.long';
           left = omega (arith, most.0, g.left);

@@ -13,7 +13,7 @@ use Rattle.regions.proofs.Stands.{part_length}
 use Rattle.copies.specs.Copies.{Clear, copied, Copied}
 use Rattle.copies.proofs.Copies.{copied_length, copied_later}
 use Rattle.strides.specs.Strides.{Stepped, step, Chain, none, more}
-use Rattle.strides.specs.declared.Step.{Step}
+use Rattle.copies.specs.declared.Step.{Step}
 use Rattle.strides.proofs.Steps.{part_first}
 
 -- the same numbers, written in another way

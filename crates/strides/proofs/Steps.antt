@@ -1,5 +1,5 @@
 -- A turn of a merge in place: what one without a branch stores, and what any turn leaves. Assumes nothing.
-use Prim.Native.Nat.{ℕ, ◌+◌, ◌-◌, ◌≤◌, ◌<◌}
+use Prim.Native.Nat.{ℕ, ◌+◌, ◌-◌, min, ◌≤◌, ◌<◌}
 use native.Mathlib.Omega.{arith}
 use mathlib.Core.Bool.{false, cond}
 use mathlib.Core.List.{List}
@@ -21,7 +21,7 @@ use Rattle.steps.specs.Places.{added}
 use Rattle.regions.specs.Regions.{part}
 use Rattle.regions.proofs.Stands.{part_length}
 use Rattle.strides.specs.Strides.{Meeting, Stepped, step}
-use Rattle.strides.specs.declared.Step.{Step}
+use Rattle.copies.specs.declared.Step.{Step}
 
 -- what stands first in a part
 pub part_first {ℓ} : {A : Type ℓ} (start n : ℕ) (l : List A) (z : A) → 0 < n → get_or (part start n l) 0 z ≡ get_or l start z
@@ -62,13 +62,14 @@ module _ {si : List ℕ} {sv : List Float} {at cap n : ℕ} {ib : List ℕ} {vb 
   abbrev Done : Type 0
   Done =
       Stepped si sv at cap n ib vb q (step (at + bool_byte (leb i j)) (q + bool_byte (leb j i)) (n + 1))
-      (set si n (cond (ltb i j) i j))
+      (set si n (min j i))
       (set sv n (cond (eqb i j) (add binary32 x y) (cond (ltb i j) x y)))
 
   from_left : i < j → Done
   from_left l =
       let h = left_first i j l in
-      rw (h.0, h.1, h.2, h.3)
+      let low : min j i ≡ i = omega arith in
+      rw (low, h.0, h.1, h.2, h.3)
       (record {
         turn = turn (get_or is 0 0) (Full (get_or vs 0 nan)) Empty (0 + 1) q;
         some = omega (arith, m.left, m.right);
@@ -81,7 +82,8 @@ module _ {si : List ℕ} {sv : List Float} {at cap n : ℕ} {ib : List ℕ} {vb 
   from_right : j < i → Done
   from_right l =
       let h = right_first i j l in
-      rw (h.0, h.1, h.2, h.3)
+      let low : min j i ≡ j = omega arith in
+      rw (low, h.0, h.1, h.2, h.3)
       (record {
         turn = turn j Empty (Full y) 0 (q + 1);
         some = omega (arith, m.left, m.right);
@@ -94,7 +96,8 @@ module _ {si : List ℕ} {sv : List Float} {at cap n : ℕ} {ib : List ℕ} {vb 
   from_both : i ≡ j → Done
   from_both e =
       let h = at_once i j e in
-      rw (h.0, h.1, h.2, h.3)
+      let low : min j i ≡ j = omega arith in
+      rw (low, h.0, h.1, h.2, h.3)
       (record {
         turn = turn (get_or is 0 0) (Full (get_or vs 0 nan)) (Full y) (0 + 1) (q + 1);
         some = omega (arith, m.left, m.right);

@@ -4,7 +4,7 @@ use Rattle.walks.specs.Walk.{Standing, Turned, Put}
 use Rattle.walks.specs.declared.Turn.{Turn}
 use Rattle.steps.specs.Places.{added}
 use Rattle.regions.specs.Regions.{part}
-use Rattle.strides.specs.declared.Step.{Step}
+use Rattle.copies.specs.declared.Step.{Step}
 use Rattle.strides.specs.declared.Stride.{Stride}
 
 -- ---- one turn
@@ -51,8 +51,8 @@ pub data Chain (cap : ℕ) (ib : List ℕ) (vb : List Float) : ℕ → Step → 
       → Chain cap ib vb (suc k) s si sv u si'' sv''
 
 -- a stride is so many turns
-abbrev pub Strode : List ℕ → List Float → ℕ → ℕ → ℕ → List ℕ → List Float → ℕ → Stride → List ℕ → List Float → Type 0
-Strode si sv at cap n ib vb q r si' sv' = Chain cap ib vb r.turns (step at q n) si sv (step r.at r.q r.n) si' sv'
+abbrev pub Strode : List ℕ → List Float → Step → ℕ → List ℕ → List Float → Stride → List ℕ → List Float → Type 0
+Strode si sv s cap ib vb r si' sv' = Chain cap ib vb r.turns s si sv r.step si' sv'
 
 -- both sides have k entries left, and there is room for as many
 pub record Ample (si : List ℕ) (sv : List Float) (at cap n : ℕ) (ib : List ℕ) (vb : List Float) (q k : ℕ) : Type 0 where

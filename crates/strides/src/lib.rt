@@ -11,62 +11,51 @@ ghost use Rattle.sparse.specs.Cells.{is_zero};
 ghost use Rattle.copies.specs.Copies.{Clear};
 ghost use Rattle.strides.specs.Strides.{Steady, Meeting, Stepped, Ample, Strode};
 
-// What turns of a merge came to: the next entries of the state and of the row, and the next to write.
-#[derive(Drop)]
-pub struct Step {
-    pub at: usize,
-    pub q: usize,
-    pub n: usize,
-}
+use copies::{Share, Step};
+use sparse::SVectBorrowed;
+use steps::Sign;
+use walks::Walk;
 
-// A turn of a merge of the state's entries from `at` up to `cap` and the row's from q on, written as the entry n.
-fn plain_step(
-    si: &mut [u32],
-    sv: &mut [f32],
-    at: usize,
-    cap: usize,
-    n: usize,
-    ib: &[u32],
-    vb: &[f32],
-    q: usize,
-) -> Step
-    requires { Steady si.old sv.old at cap n ib.now vb.now q }
-    ensures { Stepped si.old sv.old at cap n ib.now vb.now q result si.new sv.new }
+// A turn of a merge of the state's entries up to `cap` and the row's, from where `s` stands.
+fn plain_step(si: &mut [u32], sv: &mut [f32], s: Step, cap: usize, row: SVectBorrowed<'_>) -> Step
+    requires { Steady si.old sv.old s.at cap s.n row.indexes.now row.values.now s.q }
+    ensures { Stepped si.old sv.old s.at cap s.n row.entry.indexes.now row.entry.values.now s.q result si.new sv.new }
 {
-    let t = walks::one_turn(&si[at..cap], &sv[at..cap], 0, ib, vb, q);
-    let x = t.x;
-    let y = t.y;
-    let z = steps::add_cells(x, y);
-    let next = walks::put(si, sv, n, t.place, z);
+    let state = SVectBorrowed {
+        dims: row.dims,
+        indexes: &si[s.at..cap],
+        values: &sv[s.at..cap],
+    };
+    let w = Walk {
+        a: state,
+        p: 0,
+        b: row,
+        q: s.q,
+    };
+    let t = w.turn();
+    let z = Sign::Plus.cell(t.x, t.y);
+    let n = walks::put(si, sv, s.n, t.place, z);
     Step {
-        at: at + t.p,
+        at: s.at + t.p,
         q: t.q,
-        n: next,
+        n,
     }
 }
 
 // A turn where both sides have an entry left and their values do not cancel out: one entry is stored, without a branch
 // on which side is next.
-fn store_step(
-    si: &mut [u32],
-    sv: &mut [f32],
-    at: usize,
-    cap: usize,
-    n: usize,
-    ib: &[u32],
-    vb: &[f32],
-    q: usize,
-) -> Step
-    requires meeting { Meeting si.old sv.old at cap n ib.now vb.now q }
-    requires stores { is_zero (add binary32 (get_or sv.old at nan) (get_or vb.now q nan)) ≡ false }
-    ensures { Stepped si.old sv.old at cap n ib.now vb.now q result si.new sv.new }
+fn store_step(si: &mut [u32], sv: &mut [f32], s: Step, cap: usize, row: SVectBorrowed<'_>) -> Step
+    requires meeting { Meeting si.old sv.old s.at cap s.n row.indexes.now row.values.now s.q }
+    requires stores { is_zero (add binary32 (get_or sv.old s.at nan) (get_or row.values.now s.q nan)) ≡ false }
+    ensures { Stepped si.old sv.old s.at cap s.n row.entry.indexes.now row.entry.values.now s.q result si.new sv.new }
 {
+    let Step { at, q, n } = s;
     let i = si[at];
-    let j = ib[q];
+    let j = row.indexes[q];
     let x = sv[at];
-    let y = vb[q];
+    let y = row.values[q];
     let v = walks::value_at(i, j, x, y, x + y);
-    si[n] = walks::lower(i, j);
+    si[n] = j.min(i);
     sv[n] = v;
     Step {
         at: at + (i <= j) as usize,
@@ -76,36 +65,23 @@ fn store_step(
 }
 
 // A turn. That two values cancel out is rare, and is left to the plain step.
-pub fn any_step(
-    si: &mut [u32],
-    sv: &mut [f32],
-    at: usize,
-    cap: usize,
-    n: usize,
-    ib: &[u32],
-    vb: &[f32],
-    q: usize,
-) -> Step
-    requires { Steady si.old sv.old at cap n ib.now vb.now q }
-    ensures { Stepped si.old sv.old at cap n ib.now vb.now q result si.new sv.new }
+pub fn any_step(si: &mut [u32], sv: &mut [f32], s: Step, cap: usize, row: SVectBorrowed<'_>) -> Step
+    requires { Steady si.old sv.old s.at cap s.n row.indexes.now row.values.now s.q }
+    ensures { Stepped si.old sv.old s.at cap s.n row.entry.indexes.now row.entry.values.now s.q result si.new sv.new }
 {
-    if at < cap {
-        if q < ib.len() {
-            let s = sv[at] + vb[q];
-            if !(s == 0.0) {
-                return store_step(si, sv, at, cap, n, ib, vb, q);
-            }
+    if s.at < cap && s.q < row.indexes.len() {
+        let sum = sv[s.at] + row.values[s.q];
+        if !(sum == 0.0) {
+            return store_step(si, sv, s, cap, row);
         }
     }
-    plain_step(si, sv, at, cap, n, ib, vb, q)
+    plain_step(si, sv, s, cap, row)
 }
 
-// What many turns of a merge came to: as a step, and how many they were.
-#[derive(Drop)]
+// What many turns of a merge came to, and how many they were.
+#[derive(Clone, Copy)]
 pub struct Stride {
-    pub at: usize,
-    pub q: usize,
-    pub n: usize,
+    pub step: Step,
     pub turns: usize,
 }
 
@@ -114,72 +90,49 @@ pub struct Stride {
 fn run(
     si: &mut [u32],
     sv: &mut [f32],
-    at: usize,
+    s: Step,
     cap: usize,
-    n: usize,
-    ib: &[u32],
-    vb: &[f32],
-    q: usize,
+    row: SVectBorrowed<'_>,
     k: usize,
 ) -> Stride
-    requires { Ample si.old sv.old at cap n ib.now vb.now q k }
-    ensures { Strode si.old sv.old at cap n ib.now vb.now q result si.new sv.new }
+    requires { Ample si.old sv.old s.at cap s.n row.indexes.now row.values.now s.q k }
+    ensures { Strode si.old sv.old s cap row.entry.indexes.now row.entry.values.now result si.new sv.new }
 {
-    let mut u = at;
-    let mut v = q;
-    let mut m = n;
-    let mut taken: usize = 0;
-    while taken < k {
-        let s = sv[u] + vb[v];
-        if s == 0.0 {
-            return Stride {
-                at: u,
-                q: v,
-                n: m,
-                turns: taken,
-            };
+    let mut step = s;
+    for turns in 0..k {
+        let sum = sv[step.at] + row.values[step.q];
+        if sum == 0.0 {
+            return Stride { step, turns };
         }
-        let t = store_step(si, sv, u, cap, m, ib, vb, v);
-        u = t.at;
-        v = t.q;
-        m = t.n;
-        taken += 1;
+        step = store_step(si, sv, step, cap, row);
     }
-    Stride {
-        at: u,
-        q: v,
-        n: m,
-        turns: taken,
-    }
+    Stride { step, turns: k }
 }
 
 // Some turns of a merge, or none. Where the state is longer than the row, or the row has ended, all of its entries before
 // the row's next one are copied. Else up to 63 turns are taken, since which side is next cannot be foreseen.
 pub fn any_stride(
-    long: bool,
-    far: bool,
+    share: Share,
     si: &mut [u32],
     sv: &mut [f32],
-    at: usize,
+    s: Step,
     cap: usize,
-    n: usize,
-    ib: &[u32],
-    vb: &[f32],
-    q: usize,
+    row: SVectBorrowed<'_>,
 ) -> Stride
-    requires clear { Clear si.old sv.old at cap n }
-    requires q_in_bounds { (q ≤ length ib.now) × (length ib.now ≡ length vb.now) }
-    ensures { Strode si.old sv.old at cap n ib.now vb.now q result si.new sv.new }
+    requires clear { Clear si.old sv.old s.at cap s.n }
+    requires within { (s.q ≤ length row.indexes.now) × (length row.indexes.now ≡ length row.values.now) }
+    ensures { Strode si.old sv.old s cap row.entry.indexes.now row.entry.values.now result si.new sv.new }
 {
-    if long || q == ib.len() {
-        let k = copies::copy_before(far, si, sv, at, cap, n, ib, q);
-        return Stride {
-            at: at + k,
-            q: q,
-            n: n + k,
-            turns: k,
+    let left = row.indexes.len() - s.q;
+    if left == 0 || !matches!(share, Share::Even) {
+        let k = copies::copy_before(share, si, sv, s, cap, row.indexes);
+        let step = Step {
+            at: s.at + k,
+            q: s.q,
+            n: s.n + k,
         };
+        return Stride { step, turns: k };
     }
-    let k = walks::smaller(63, walks::smaller(cap - at, ib.len() - q));
-    run(si, sv, at, cap, n, ib, vb, q, k)
+    let k = left.min(cap - s.at).min(63);
+    run(si, sv, s, cap, row, k)
 }

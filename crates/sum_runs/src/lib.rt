@@ -3,144 +3,84 @@
 
 #![tactic(auto)]
 
-ghost use Rattle.sums.specs.Sums.{step_of};
-ghost use Rattle.sums.specs.Loops.{Running, Ran};
+ghost use Rattle.sums.specs.Loops.{Added, Running, Ran};
 
 use sparse::Cell;
-use sums::{Kind, Part};
-use walks::Way;
+use sums::{Part, Sum};
+use walks::{Walk, Way};
 
-// Turns without a branch on which side is next, for sides with few places in common.
-fn quick_run(
-    kind: Kind,
-    k: usize,
-    acc: f32,
-    ia: &[u32],
-    va: &[f32],
-    p: usize,
-    ib: &[u32],
-    vb: &[f32],
-    q: usize,
-) -> Part
-    requires { Running ia.now va.now p ib.now vb.now q k }
-    ensures { Ran (step_of kind) k acc ia.now va.now p ib.now vb.now q result.acc result.p result.q }
-{
-    let mut u = p;
-    let mut v = q;
-    let mut sum = acc;
-    let mut taken: usize = 0;
-    while taken < k {
-        let i = ia[u];
-        let j = ib[v];
-        let x = va[u];
-        let y = vb[v];
-        sum = sums::quick_place(kind, sum, i, j, x, y);
-        u += (i <= j) as usize;
-        v += (j <= i) as usize;
-        taken += 1;
-    }
-    Part {
-        acc: sum,
-        p: u,
-        q: v,
-    }
+// A way to take a turn where both sides have an entry left. A run has the way as a type, so that its loop has no test of
+// it.
+trait Turning {
+    fn turn<S: Sum>(acc: S, w: Walk<'_>) -> Part<S>
+        requires { Running w 1 }
+        ensures { Added S.step acc w.entry result.acc result.p result.q };
 }
 
-// Turns with a branch on whether both sides meet, for sides with most places in common.
-fn met_run(
-    kind: Kind,
-    k: usize,
-    acc: f32,
-    ia: &[u32],
-    va: &[f32],
-    p: usize,
-    ib: &[u32],
-    vb: &[f32],
-    q: usize,
-) -> Part
-    requires { Running ia.now va.now p ib.now vb.now q k }
-    ensures { Ran (step_of kind) k acc ia.now va.now p ib.now vb.now q result.acc result.p result.q }
-{
-    let mut u = p;
-    let mut v = q;
-    let mut sum = acc;
-    let mut taken: usize = 0;
-    while taken < k {
-        let i = ia[u];
-        let j = ib[v];
-        if i == j {
-            let x = va[u];
-            let y = vb[v];
-            sum = sums::add_place(kind, sum, Cell::Full(x), Cell::Full(y));
-            u += 1;
-            v += 1;
-            taken += 1;
-        } else {
-            sum = sums::lone_place(kind, sum, i < j, va, u, vb, v);
-            u += (i < j) as usize;
-            v += (j < i) as usize;
-            taken += 1;
+// Without a branch on which side is next, for sides with few places in common.
+struct Quick;
+
+impl Turning for Quick {
+    fn turn<S: Sum>(acc: S, w: Walk<'_>) -> Part<S> {
+        let Walk { a, p, b, q } = w;
+        let i = a.indexes[p];
+        let j = b.indexes[q];
+        Part {
+            acc: acc.quick(i, j, a.values[p], b.values[q]),
+            p: p + (i <= j) as usize,
+            q: q + (j <= i) as usize,
         }
     }
-    Part {
-        acc: sum,
-        p: u,
-        q: v,
+}
+
+// With a branch on whether both sides meet, for sides with most places in common.
+struct Meeting;
+
+impl Turning for Meeting {
+    fn turn<S: Sum>(acc: S, w: Walk<'_>) -> Part<S> {
+        let Walk { a, p, b, q } = w;
+        if a.indexes[p] != b.indexes[q] {
+            return acc.lone(w);
+        }
+        Part {
+            acc: acc.add(Cell::Full(a.values[p]), Cell::Full(b.values[q])),
+            p: p + 1,
+            q: q + 1,
+        }
     }
 }
 
-// Turns with branches on which side is next, for sides of which one has nearly all entries.
-fn plain_run(
-    kind: Kind,
-    k: usize,
-    acc: f32,
-    ia: &[u32],
-    va: &[f32],
-    p: usize,
-    ib: &[u32],
-    vb: &[f32],
-    q: usize,
-) -> Part
-    requires { Running ia.now va.now p ib.now vb.now q k }
-    ensures { Ran (step_of kind) k acc ia.now va.now p ib.now vb.now q result.acc result.p result.q }
+// With branches on which side is next, for sides of which one has nearly all entries.
+struct Plain;
+
+impl Turning for Plain {
+    fn turn<S: Sum>(acc: S, w: Walk<'_>) -> Part<S> {
+        sums::plain_turn(acc, w)
+    }
+}
+
+// So many turns of one kind.
+fn run_by<T: Turning, S: Sum>(k: usize, acc: S, w: Walk<'_>) -> Part<S>
+    requires { Running w k }
+    ensures { Ran S.step k acc w.entry result.acc result.p result.q }
 {
-    let mut u = p;
-    let mut v = q;
-    let mut sum = acc;
-    let mut taken: usize = 0;
-    while taken < k {
-        let t = sums::plain_turn(kind, sum, ia, va, u, ib, vb, v);
-        sum = t.acc;
-        u = t.p;
-        v = t.q;
-        taken += 1;
+    let Walk { a, p, b, q } = w;
+    let mut part = Part { acc, p, q };
+    for _ in 0..k {
+        let Part { acc, p, q } = part;
+        part = T::turn(acc, Walk { a, p, b, q });
     }
-    Part {
-        acc: sum,
-        p: u,
-        q: v,
-    }
+    part
 }
 
 // So many turns, in one of three ways.
-pub fn run(
-    kind: Kind,
-    way: Way,
-    k: usize,
-    acc: f32,
-    ia: &[u32],
-    va: &[f32],
-    p: usize,
-    ib: &[u32],
-    vb: &[f32],
-    q: usize,
-) -> Part
-    requires { Running ia.now va.now p ib.now vb.now q k }
-    ensures { Ran (step_of kind) k acc ia.now va.now p ib.now vb.now q result.acc result.p result.q }
+pub fn run<S: Sum>(way: Way, k: usize, acc: S, w: Walk<'_>) -> Part<S>
+    requires { Running w k }
+    ensures { Ran S.step k acc w.entry result.acc result.p result.q }
 {
     match way {
-        Way::Plain => plain_run(kind, k, acc, ia, va, p, ib, vb, q),
-        Way::Quick => quick_run(kind, k, acc, ia, va, p, ib, vb, q),
-        Way::Meeting => met_run(kind, k, acc, ia, va, p, ib, vb, q),
+        Way::Plain => run_by::<Plain, S>(k, acc, w),
+        Way::Quick => run_by::<Quick, S>(k, acc, w),
+        Way::Meeting => run_by::<Meeting, S>(k, acc, w),
     }
 }

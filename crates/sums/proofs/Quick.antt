@@ -8,9 +8,11 @@ use lib.Ieee.{Float, fin, binary32, add, sub, mul, neg, fits, of_bits}
 use Rattle.whole.proofs.Zero.{add_none, sub_none, square_of_minus}
 use Rattle.sparse.specs.Cells.{zero32}
 use Rattle.sparse.specs.declared.Cell.TheVariants.{Empty, Full}
-use Rattle.sums.specs.Sums.{square_of, product_step, difference_step, step_of, three_step}
+use Rattle.sums.specs.Sums.{square_of, three_step}
+use Rattle.sums.specs.Loops.{products_step, differences_step}
+use Rattle.sums.specs.declared.Products.{Products}
+use Rattle.sums.specs.declared.Differences.{Differences}
 use Rattle.sums.specs.declared.Three.{Three}
-use Rattle.sums.specs.declared.Kind.TheVariants.{Product, Difference}
 
 -- ---- the zeros that a program writes
 
@@ -35,24 +37,17 @@ square_right y h = sym (ap (λ (z : Float). square_of (sub binary32 z y)) plus_z
 
 -- ---- at the smaller of two indexes
 
-pub product_next : (b d : Bool) (acc x y : Float) → T (fits binary32 acc)
-    → add binary32 acc (cond b (mul binary32 x y) (cond d (neg zero32) (neg zero32)))
-    ≡ cond b (product_step acc (Full x) (Full y)) (cond d (product_step acc (Full x) Empty) (product_step acc Empty (Full y)))
-product_next true d acc x y h = refl
-product_next false true acc x y h = stays acc h
-product_next false false acc x y h = stays acc h
-
-pub difference_next : (b d : Bool) (acc x y : Float)
-    → add binary32 acc (square_of (cond b (sub binary32 x y) (cond d (sub binary32 x zero32) (sub binary32 zero32 y))))
-    ≡ cond b (difference_step acc (Full x) (Full y)) (cond d (difference_step acc (Full x) Empty) (difference_step acc Empty (Full y)))
-difference_next true d acc x y = refl
-difference_next false true acc x y = refl
-difference_next false false acc x y = refl
+pub product_next : (b d : Bool) (s : Products) (x y : Float) → T (fits binary32 s.0)
+    → ◌≡◌ {A = Products} (record { 0 = add binary32 s.0 (cond b (mul binary32 x y) (cond d (neg zero32) (neg zero32))) })
+    (cond b (products_step s (Full x) (Full y)) (cond d (products_step s (Full x) Empty) (products_step s Empty (Full y))))
+product_next true d s x y h = refl
+product_next false true s x y h = rw (stays s.0 h)
+product_next false false s x y h = rw (stays s.0 h)
 
 pub three_next : (b d : Bool) (t : Three) (x y : Float) → T (fits binary32 t.x2) → T (fits binary32 t.y2)
     → ◌≡◌ {A = Three}
     (record {
-      xy = cond b (product_step t.xy (Full x) (Full y)) (cond d (product_step t.xy (Full x) Empty) (product_step t.xy Empty (Full y)));
+      xy = (cond b (products_step (record { 0 = t.xy }) (Full x) (Full y)) (cond d (products_step (record { 0 = t.xy }) (Full x) Empty) (products_step (record { 0 = t.xy }) Empty (Full y)))).0;
       x2 = add binary32 t.x2 (cond b (square_of x) (cond d (square_of x) (neg zero32)));
       y2 = add binary32 t.y2 (cond b (square_of y) (cond d (neg zero32) (square_of y)));
     })
@@ -63,11 +58,22 @@ three_next false false t x y h k = rw (stays t.x2 h)
 
 -- ---- at an index of one side
 
-pub product_lone : (left : Bool) (acc x y : Float) → acc ≡ cond left (step_of Product acc (Full x) Empty) (step_of Product acc Empty (Full y))
-product_lone true acc x y = refl
-product_lone false acc x y = refl
+pub left_alone : (s : Differences) (v : Float) → T (fits binary32 v)
+    → ◌≡◌ {A = Differences} (record { 0 = add binary32 s.0 (square_of v) }) (differences_step s (Full v) Empty)
+left_alone s v h = rw (square_left v h)
 
-pub difference_lone : (left : Bool) (acc x y : Float) → T (fits binary32 x) → T (fits binary32 y)
-    → add binary32 acc (square_of (cond left x y)) ≡ cond left (step_of Difference acc (Full x) Empty) (step_of Difference acc Empty (Full y))
-difference_lone true acc x y h k = ap (add binary32 acc) (square_left x h)
-difference_lone false acc x y h k = ap (add binary32 acc) (square_right y k)
+pub right_alone : (s : Differences) (v : Float) → T (fits binary32 v)
+    → ◌≡◌ {A = Differences} (record { 0 = add binary32 s.0 (square_of v) }) (differences_step s Empty (Full v))
+right_alone s v h = rw (square_right v h)
+
+-- a product that is not there adds nothing
+pub product_lone : (left : Bool) (s : Products) (x y : Float)
+    → s ≡ cond left (products_step s (Full x) Empty) (products_step s Empty (Full y))
+product_lone true s x y = refl
+product_lone false s x y = refl
+
+pub difference_lone : (left : Bool) (s r : Differences) (x y v : Float) → v ≡ cond left x y
+    → r ≡ differences_step s (Full v) Empty → r ≡ differences_step s Empty (Full v)
+    → r ≡ cond left (differences_step s (Full x) Empty) (differences_step s Empty (Full y))
+difference_lone true s r x y v e l h = rw e at l
+difference_lone false s r x y v e l h = rw e at h

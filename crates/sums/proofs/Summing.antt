@@ -7,7 +7,7 @@ use Rattle.sparse.specs.declared.Cell.{Cell}
 use Rattle.sparse.specs.declared.Cell.TheVariants.{Empty}
 use Rattle.walks.specs.Walk.{Turned}
 use Rattle.walks.specs.declared.Turn.{Turn}
-use Rattle.walks.proofs.Walk.{Quiet, Going, going_start, going_more, going_end, left_cell, right_cell, place_below}
+use Rattle.walks.proofs.Walks.{Quiet, Going, going_start, going_more, going_end, left_cell, right_cell, place_below}
 use Rattle.sums.specs.Loops.{Ready}
 
 -- the sum so far is that of the places below the one where the walk stands
@@ -24,13 +24,13 @@ module _ {A : Type 0} {step : A → Cell → Cell → A} (still : (acc : A) → 
   unfolding fold_below
   quiet i ea eb e = e ∙ rw (ea, eb) (sym (still (fold_below step start (at a) (at b) i)))
 
-  pub summing_more : a.dims ≡ b.dims → {t : Turn} → Turned a.indexes a.values p b.indexes b.values q t
+  pub summing_more : {t : Turn} → Turned a.indexes a.values p b.indexes b.values q t
       → {sum : A} → sum ≡ step acc t.x t.y → Summing step start a b t.p t.q sum
   unfolding fold_below
-  summing_more same {t} u e =
+  summing_more {t} u e =
       let g = m.going in
       record {
-        going = going_more r.left r.right g u quiet (place_below r.left r.right g u same)
+        going = going_more r.left r.right g u quiet (place_below r.left r.right g u r.even)
             (λ h.
             e
             ∙ ap₂ (step acc) (sym (left_cell r.left r.right g u)) (sym (right_cell r.left r.right g u))

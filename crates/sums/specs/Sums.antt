@@ -8,8 +8,6 @@ use Rattle.sparse.specs.Vectors.{Vector, at}
 use Rattle.sparse.specs.declared.Cell.{Cell}
 use Rattle.sparse.specs.declared.Cell.TheVariants.{Empty, Full}
 use Rattle.sums.specs.declared.Three.{Three}
-use Rattle.sums.specs.declared.Kind.{Kind}
-use Rattle.sums.specs.declared.Kind.TheVariants.{Product, Difference}
 
 -- "add the products of common indexes"
 abbrev pub product_step : Float → Cell → Cell → Float
@@ -30,6 +28,11 @@ abbrev pub difference_step : Float → Cell → Cell → Float
 difference_step acc Empty Empty = acc
 difference_step acc Empty (Full b) = add binary32 acc (square_of (sub binary32 zero32 b))
 difference_step acc (Full a) y = add binary32 acc (square_of (sub binary32 a (dense y)))
+
+-- what is added up: products of common entries, or squared differences
+pub data Kind : Type 0 where
+  Product : Kind
+  Difference : Kind
 
 abbrev pub step_of : Kind → Float → Cell → Cell → Float
 step_of Product = product_step

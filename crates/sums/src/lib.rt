@@ -3,92 +3,132 @@
 
 #![tactic(auto)]
 
-ghost use Rattle.std.specs.Prelude.{◌<◌, cond, ◌≡◌, length, get_or};
-ghost use Rattle.std.specs.Float.{nan};
+ghost use Rattle.std.specs.Prelude.{◌≡◌, refl};
+ghost use Rattle.sparse.specs.declared.Cell.{Cell};
 ghost use Rattle.sparse.specs.declared.Cell.TheVariants.{Empty, Full};
-ghost use Rattle.walks.specs.Walk.{Standing};
-ghost use Rattle.sums.specs.Sums.{product_step, difference_step, square_step, step_of, three_step};
-ghost use Rattle.sums.specs.Loops.{next_of, Added};
+ghost use Rattle.walks.specs.Walk.{Stands};
+ghost use Rattle.sums.specs.Sums.{square_step, three_step};
+ghost use Rattle.sums.specs.Loops.{next_of, products_step, differences_step, Added, Apart};
 
 use sparse::Cell;
+use walks::Walk;
 
-// What is added up: products of common entries, or squared differences.
+// What so many turns came to: the sum, and the next entries of both sides.
 #[derive(Clone, Copy)]
-pub enum Kind {
-    Product,
-    Difference,
+pub struct Part<S> {
+    pub acc: S,
+    pub p: usize,
+    pub q: usize,
 }
 
-// The three sums of one walk.
-#[derive(Drop)]
+// What is added up over the places of two vectors, in rising order.
+pub trait Sum: Copy {
+    // the sum with what stands at one more place
+    ghost step: { Self → Cell → Cell → Self };
+
+    fn add(self, x: Cell, y: Cell) -> Self
+        ensures { result ≡ step self x y };
+
+    // The sum with the place of the smaller of two indexes, whose values are x and y, without a branch.
+    fn quick(self, i: u32, j: u32, x: f32, y: f32) -> Self
+        ensures { result ≡ next_of step self i j x y };
+
+    // The turn of a walk to a place that one side has alone, with a branch on which side it is or without, whichever is fast.
+    fn lone(self, w: Walk<'_>) -> Part<Self>
+        requires { Apart w }
+        ensures { Added step self w.entry result.acc result.p result.q };
+
+    // where nothing stands nothing is added
+    ghost still: { (sum : Self) → step sum Empty Empty ≡ sum };
+}
+
+// The sum of the products of common entries.
+#[derive(Clone, Copy)]
+pub struct Products(pub f32);
+
+impl Sum for Products {
+    ghost step = { products_step };
+
+    ghost still = { λ sum. refl };
+
+    fn add(self, x: Cell, y: Cell) -> Products {
+        match (x, y) {
+            (Cell::Full(a), Cell::Full(b)) => Products(self.0 + a * b),
+            _ => self,
+        }
+    }
+
+    // -0 added leaves a sum as it is.
+    fn quick(self, i: u32, j: u32, x: f32, y: f32) -> Products {
+        Products(self.0 + walks::value_at(i, j, -0.0, -0.0, x * y))
+    }
+
+    fn lone(self, w: Walk<'_>) -> Part<Products> {
+        let Walk { a, p, b, q } = w;
+        let i = a.indexes[p];
+        let j = b.indexes[q];
+        Part {
+            acc: self,
+            p: p + (i < j) as usize,
+            q: q + (j < i) as usize,
+        }
+    }
+}
+
+// The sum of the squared differences.
+#[derive(Clone, Copy)]
+pub struct Differences(pub f32);
+
+impl Differences {
+    // The sum with a place that either side has alone: the square of the difference to zero is that of the value.
+    fn add_alone(self, v: f32) -> Differences
+        ensures left { result ≡ differences_step self (Full v) Empty }
+        ensures right { result ≡ differences_step self Empty (Full v) }
+    {
+        Differences(self.0 + v * v)
+    }
+}
+
+impl Sum for Differences {
+    ghost step = { differences_step };
+
+    ghost still = { λ sum. refl };
+
+    fn add(self, x: Cell, y: Cell) -> Differences {
+        let d = match (x, y) {
+            (Cell::Full(a), Cell::Full(b)) => a - b,
+            (Cell::Full(a), Cell::Empty) => a - 0.0,
+            (Cell::Empty, Cell::Full(b)) => 0.0 - b,
+            (Cell::Empty, Cell::Empty) => return self,
+        };
+        Differences(self.0 + d * d)
+    }
+
+    fn quick(self, i: u32, j: u32, x: f32, y: f32) -> Differences {
+        let d = walks::value_at(i, j, x - 0.0, 0.0 - y, x - y);
+        Differences(self.0 + d * d)
+    }
+
+    // One value is chosen, and read: two steps on x86-64 without a branch.
+    fn lone(self, w: Walk<'_>) -> Part<Differences> {
+        let Walk { a, p, b, q } = w;
+        let i = a.indexes[p];
+        let j = b.indexes[q];
+        let v = walks::pick(i < j, a.values, p, b.values, q);
+        Part {
+            acc: self.add_alone(v),
+            p: p + (i < j) as usize,
+            q: q + (j < i) as usize,
+        }
+    }
+}
+
+// The three sums of one walk: of the products of common entries, and of the squares of either side.
+#[derive(Clone, Copy)]
 pub struct Three {
     pub xy: f32,
     pub x2: f32,
     pub y2: f32,
-}
-
-// What so many turns came to: the sum, and the next entries of both sides.
-#[derive(Drop)]
-pub struct Part {
-    pub acc: f32,
-    pub p: usize,
-    pub q: usize,
-}
-
-#[derive(Drop)]
-pub struct ThreePart {
-    pub acc: Three,
-    pub p: usize,
-    pub q: usize,
-}
-
-// ---- one place
-
-// The sum with the product of one more place.
-fn add_product(acc: f32, x: Cell, y: Cell) -> f32
-    ensures { result ≡ product_step acc x y }
-{
-    match x {
-        Cell::Full(a) => match y {
-            Cell::Full(b) => acc + a * b,
-            Cell::Empty => acc,
-        },
-        Cell::Empty => acc,
-    }
-}
-
-// The sum with the squared difference of one more place.
-fn add_difference(acc: f32, x: Cell, y: Cell) -> f32
-    ensures { result ≡ difference_step acc x y }
-{
-    match x {
-        Cell::Full(a) => match y {
-            Cell::Full(b) => {
-                let d = a - b;
-                acc + d * d
-            }
-            Cell::Empty => {
-                let d = a - 0.0;
-                acc + d * d
-            }
-        },
-        Cell::Empty => match y {
-            Cell::Full(b) => {
-                let d = 0.0 - b;
-                acc + d * d
-            }
-            Cell::Empty => acc,
-        },
-    }
-}
-
-pub fn add_place(kind: Kind, acc: f32, x: Cell, y: Cell) -> f32
-    ensures { result ≡ step_of kind acc x y }
-{
-    match kind {
-        Kind::Product => add_product(acc, x, y),
-        Kind::Difference => add_difference(acc, x, y),
-    }
 }
 
 // A sum with the square of one more place.
@@ -101,121 +141,53 @@ fn add_square(acc: f32, x: Cell) -> f32
     }
 }
 
-// The three sums with one more place.
-pub fn add_three(t: Three, x: Cell, y: Cell) -> Three
-    ensures { result ≡ three_step t x y }
-{
-    Three {
-        xy: add_product(t.xy, x, y),
-        x2: add_square(t.x2, x),
-        y2: add_square(t.y2, y),
+impl Sum for Three {
+    ghost step = { three_step };
+
+    ghost still = { λ sum. refl };
+
+    fn add(self, x: Cell, y: Cell) -> Three {
+        Three {
+            xy: Products(self.xy).add(x, y).0,
+            x2: add_square(self.x2, x),
+            y2: add_square(self.y2, y),
+        }
+    }
+
+    fn quick(self, i: u32, j: u32, x: f32, y: f32) -> Three {
+        Three {
+            xy: Products(self.xy).quick(i, j, x, y).0,
+            x2: self.x2 + walks::value_at(i, j, x * x, -0.0, x * x),
+            y2: self.y2 + walks::value_at(i, j, -0.0, y * y, y * y),
+        }
+    }
+
+    // A choice between the two sums of squares would be a branch too.
+    fn lone(self, w: Walk<'_>) -> Part<Three> {
+        let Walk { a, p, b, q } = w;
+        if a.indexes[p] < b.indexes[q] {
+            return Part {
+                acc: self.add(Cell::Full(a.values[p]), Cell::Empty),
+                p: p + 1,
+                q,
+            };
+        }
+        Part {
+            acc: self.add(Cell::Empty, Cell::Full(b.values[q])),
+            p,
+            q: q + 1,
+        }
     }
 }
 
-// ---- the place of the smaller of two indexes, whose values are x and y, without a branch; -0 added leaves a sum as it is
-
-fn quick_product(acc: f32, i: u32, j: u32, x: f32, y: f32) -> f32
-    ensures { result ≡ next_of product_step acc i j x y }
+// One turn of a walk that has an entry left, with branches, where one side may have ended.
+pub fn plain_turn<S: Sum>(acc: S, w: Walk<'_>) -> Part<S>
+    requires { Stands w }
+    ensures { Added S.step acc w.entry result.acc result.p result.q }
 {
-    acc + walks::value_at(i, j, -0.0, -0.0, x * y)
-}
-
-fn quick_difference(acc: f32, i: u32, j: u32, x: f32, y: f32) -> f32
-    ensures { result ≡ next_of difference_step acc i j x y }
-{
-    let both = x - y;
-    let left = x - 0.0;
-    let right = 0.0 - y;
-    let d = walks::value_at(i, j, left, right, both);
-    acc + d * d
-}
-
-pub fn quick_place(kind: Kind, acc: f32, i: u32, j: u32, x: f32, y: f32) -> f32
-    ensures { result ≡ next_of (step_of kind) acc i j x y }
-{
-    match kind {
-        Kind::Product => quick_product(acc, i, j, x, y),
-        Kind::Difference => quick_difference(acc, i, j, x, y),
-    }
-}
-
-pub fn quick_three(t: Three, i: u32, j: u32, x: f32, y: f32) -> Three
-    ensures { result ≡ next_of three_step t i j x y }
-{
-    Three {
-        xy: quick_product(t.xy, i, j, x, y),
-        x2: t.x2 + walks::value_at(i, j, x * x, -0.0, x * x),
-        y2: t.y2 + walks::value_at(i, j, -0.0, y * y, y * y),
-    }
-}
-
-// ---- a place that one side has alone
-
-// A square is that of the difference to zero: one value is chosen, and read.
-pub fn lone_place(
-    kind: Kind,
-    acc: f32,
-    left: bool,
-    va: &[f32],
-    p: usize,
-    vb: &[f32],
-    q: usize,
-) -> f32
-    requires { (p < length va.now) × (q < length vb.now) }
-    ensures { result ≡ cond left (step_of kind acc (Full (get_or va.now p nan)) Empty) (step_of kind acc Empty (Full (get_or vb.now q nan))) }
-{
-    if let Kind::Difference = kind {
-        let d = walks::pick(left, va, p, vb, q);
-        return acc + d * d;
-    }
-    acc
-}
-
-// ---- turns with branches, where one side may have ended
-
-// One turn of a walk that has an entry left.
-pub fn plain_turn(
-    kind: Kind,
-    acc: f32,
-    ia: &[u32],
-    va: &[f32],
-    p: usize,
-    ib: &[u32],
-    vb: &[f32],
-    q: usize,
-) -> Part
-    requires { Standing ia.now va.now p ib.now vb.now q }
-    ensures { Added (step_of kind) acc ia.now va.now p ib.now vb.now q result.acc result.p result.q }
-{
-    let t = walks::one_turn(ia, va, p, ib, vb, q);
-    let x = t.x;
-    let y = t.y;
-    let sum = add_place(kind, acc, x, y);
+    let t = w.turn();
     Part {
-        acc: sum,
-        p: t.p,
-        q: t.q,
-    }
-}
-
-pub fn plain_three_turn(
-    acc: Three,
-    ia: &[u32],
-    va: &[f32],
-    p: usize,
-    ib: &[u32],
-    vb: &[f32],
-    q: usize,
-) -> ThreePart
-    requires { Standing ia.now va.now p ib.now vb.now q }
-    ensures { Added three_step acc ia.now va.now p ib.now vb.now q result.acc result.p result.q }
-{
-    let t = walks::one_turn(ia, va, p, ib, vb, q);
-    let x = t.x;
-    let y = t.y;
-    let sum = add_three(acc, x, y);
-    ThreePart {
-        acc: sum,
+        acc: acc.add(t.x, t.y),
         p: t.p,
         q: t.q,
     }

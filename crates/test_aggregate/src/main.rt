@@ -13,7 +13,7 @@
 // A header is its seven numbers: start, region length, 1 if it has begun and else 0, dims, len, capacity and
 // count. Two lists are given as `cases` reads them, and have at most 80 indexes and 80 values.
 //
-// An answer shows the number and the place, or what was done; the header that is handed back; and then the lists
+// An answer shows the number and the place, or what was done; the header that the call left; and then the lists
 // that the call may change, as it left them. `_` is an entry that a merge leaves open: one of the region's from
 // len up to the capacity.
 #![tactic(auto)]
@@ -22,20 +22,6 @@ mod calls;
 mod read;
 mod show;
 
-// Runs the lines, up to the first that is no case.
-fn lines(s: &[u8]) {
-    let mut at: usize = 0;
-    while at < s.len() {
-        let end = cases::find(s, at, b'\n');
-        if !calls::line(&s[at..end]) {
-            return;
-        }
-        at = end + 1;
-    }
-}
-
 fn main() {
-    let mut space = cases::room();
-    let n = cases::input(&mut space);
-    lines(&space[..n]);
+    cases::run(calls::line);
 }

@@ -1,49 +1,40 @@
 // Prints headers, what a call on a state answers, and what it left in two lists.
 
-use aggregate_svecf32::{Header, Told};
-
-// 1 for true.
-fn flag(b: bool) {
-    if b {
-        shown::number(1)
-    } else {
-        shown::number(0)
-    }
-}
+use aggregate_svecf32::Header;
+use refusal::Refusal;
+use regions::Lists;
 
 pub fn header(h: Header) {
     shown::text(b" header");
     shown::number(h.start as u64);
     shown::number(h.length as u64);
-    flag(h.begun);
+    shown::number(h.begun as u64);
     shown::number(h.dims as u64);
     shown::number(h.len as u64);
     shown::number(h.capacity as u64);
     shown::number(h.count);
 }
 
-pub fn told(r: &Told) {
+// What a call answered, and the header that it left.
+pub fn told(h: Header, r: Result<usize, Refusal>) {
     match r {
-        Told::Done(h, turns) => {
+        Ok(turns) => {
             shown::text(b" done");
-            header(*h);
+            header(h);
             shown::text(b" turns");
-            shown::number(*turns as u64);
+            shown::number(turns as u64);
         }
-        Told::Refused(h, n, p) => {
-            shown::refused(*n, *p);
-            header(*h);
+        Err(e) => {
+            shown::refused(e);
+            header(h);
         }
     }
 }
 
 // Whether a place of the lists lies in the state's region, from len up to the capacity.
 fn is_spare(h: Header, i: usize) -> bool {
-    if i < h.start {
-        return false;
-    }
-    let j = i - h.start;
-    h.len <= j && j < h.capacity
+    i.checked_sub(h.start)
+        .is_some_and(|j| (h.len..h.capacity).contains(&j))
 }
 
 fn index(i: u32) {
@@ -55,42 +46,28 @@ fn index(i: u32) {
 fn entry(i: u32, v: f32) {
     if i == cases::DOT_INDEX && v == cases::DOT_VALUE {
         shown::text(b" .");
-        return;
-    }
-    shown::entry(i, v);
-}
-
-// What stands at a place in either list, or `_` if it is a spare place of the state `open`.
-fn place(indexes: &[u32], values: &[f32], i: usize, open: Header) {
-    if is_spare(open, i) {
-        shown::text(b" _");
-        return;
-    }
-    if i < indexes.len() {
-        if i < values.len() {
-            entry(indexes[i], values[i]);
-            return;
-        }
-        index(indexes[i]);
-        return;
-    }
-    if i < values.len() {
-        shown::text(b" :");
-        shown::bits(values[i]);
+    } else {
+        shown::entry(i, v);
     }
 }
 
-fn longer(a: usize, b: usize) -> usize {
-    if a < b { b } else { a }
-}
-
-// Two lists, with `_` at the spare places of the state `open`.
-pub fn lists(indexes: &[u32], values: &[f32], open: Header) {
+// Two lists, with `_` at the spare places of the state `open`, if there is one.
+pub fn lists(lists: Lists<'_>, open: Option<Header>) {
     shown::text(b" |");
-    let n = longer(indexes.len(), values.len());
-    let mut i: usize = 0;
-    while i < n {
-        place(indexes, values, i, open);
-        i += 1;
+    let Lists { indexes, values } = lists;
+    for i in 0..indexes.len().max(values.len()) {
+        if open.is_some_and(|h| is_spare(h, i)) {
+            shown::text(b" _");
+            continue;
+        }
+        match (indexes.get(i), values.get(i)) {
+            (Some(i), Some(v)) => entry(*i, *v),
+            (Some(i), None) => index(*i),
+            (None, Some(v)) => {
+                shown::text(b" :");
+                shown::bits(*v);
+            }
+            (None, None) => {}
+        }
     }
 }

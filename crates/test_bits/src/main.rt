@@ -21,20 +21,6 @@ mod calls;
 mod read;
 mod show;
 
-// Runs the lines, up to the first that is no case.
-fn lines(s: &[u8]) {
-    let mut at: usize = 0;
-    while at < s.len() {
-        let end = cases::find(s, at, b'\n');
-        if !calls::line(&s[at..end]) {
-            return;
-        }
-        at = end + 1;
-    }
-}
-
 fn main() {
-    let mut space = cases::room();
-    let n = cases::input(&mut space);
-    lines(&space[..n]);
+    cases::run(calls::line);
 }

@@ -23,57 +23,33 @@ mod show;
 mod states;
 mod table;
 
+use cases::Line;
 use settings::Setting;
-use states::{Indexes, State, Values};
-
-// Shows the state that has all rows.
-fn total(s: State, ai: &Indexes, av: &Values, bi: &Indexes, bv: &Values) {
-    if s.in_b {
-        show::total(s.header, bi, bv);
-        return;
-    }
-    show::total(s.header, ai, av);
-}
+use states::Store;
+use table::Table;
 
 // Runs one setting.
-fn run(s: Setting, ai: &mut Indexes, av: &mut Values, bi: &mut Indexes, bv: &mut Values) {
-    let dealt = table::deal_rows(table::empty(), s, ai, av, bi, bv);
-    let t = table::combine(dealt, s, ai, av, bi, bv);
-    show::tally(t.tally);
-    let root = settings::root(s);
-    let last = t.states[root];
-    total(last, ai, av, bi, bv);
+fn run(s: Setting, a: &mut Store, b: &mut Store) {
+    let mut t = Table::empty();
+    let end = t.fill(s, a, b);
+    show::tally(t.tally, end);
+    let root = t.states[s.root()];
+    show::total(root.header, if root.in_b { b.lists() } else { a.lists() });
 }
 
 // Runs one line. Answers whether it is a setting.
-fn line(s: &[u8], ai: &mut Indexes, av: &mut Values, bi: &mut Indexes, bv: &mut Values) -> bool {
-    let bar = cases::title(s);
-    let setting = settings::read(s, bar);
-    if setting.states == 0 {
+fn line(s: &[u8], a: &mut Store, b: &mut Store) -> bool {
+    let mut line = Line { rest: s };
+    line.title();
+    let Some(setting) = Setting::read(line) else {
         return cases::ended(false);
-    }
-    run(setting, ai, av, bi, bv);
+    };
+    run(setting, a, b);
     true
 }
 
-// Runs the lines, up to the first that is no setting. The lists start with entries that belong to no state.
-fn lines(s: &[u8]) {
-    let mut ai = [4294967295u32; 3072];
-    let mut av = [9.0f32; 3072];
-    let mut bi = [4294967295u32; 3072];
-    let mut bv = [9.0f32; 3072];
-    let mut at: usize = 0;
-    while at < s.len() {
-        let end = cases::find(s, at, b'\n');
-        if !line(&s[at..end], &mut ai, &mut av, &mut bi, &mut bv) {
-            return;
-        }
-        at = end + 1;
-    }
-}
-
 fn main() {
-    let mut space = cases::room();
-    let n = cases::input(&mut space);
-    lines(&space[..n]);
+    let mut a = Store::new();
+    let mut b = Store::new();
+    cases::run(|s| line(s, &mut a, &mut b));
 }

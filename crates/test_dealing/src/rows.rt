@@ -2,18 +2,32 @@
 // 12 entries, whole numbers between -50,000 and 50,000. The magnitudes at an index add up to less than 16,777,216,
 // and at some to nearly as much: the program prints their sums.
 
-ghost use Rattle.std.specs.Prelude.{◌≤◌};
+use sparse::SVectBorrowed;
 
 pub const ROWS: usize = 2000;
 
 pub const DIMS: u32 = 48;
 
 // The kinds of values: as they are, their magnitudes, or thirds of them.
-pub const WHOLE: u64 = 0;
+#[derive(Clone, Copy)]
+pub enum Kind {
+    Whole,
+    Magnitudes,
+    Thirds,
+}
 
-pub const MAGNITUDES: u64 = 1;
+impl TryFrom<u64> for Kind {
+    type Error = ();
 
-pub const THIRDS: u64 = 2;
+    fn try_from(n: u64) -> Result<Kind, ()> {
+        match n {
+            0 => Ok(Kind::Whole),
+            1 => Ok(Kind::Magnitudes),
+            2 => Ok(Kind::Thirds),
+            _ => Err(()),
+        }
+    }
+}
 
 // Rows r and HALF + r have the same indexes.
 const HALF: usize = 1000;
@@ -51,11 +65,11 @@ fn whole(r: usize, i: usize) -> f32 {
 }
 
 // What a row of this kind has where the row has x.
-fn of_kind(kind: u64, x: f32) -> f32 {
+fn of_kind(kind: Kind, x: f32) -> f32 {
     match kind {
-        WHOLE => x,
-        MAGNITUDES => { if x < 0.0 { -x } else { x } }
-        _ => x / 3.0,
+        Kind::Whole => x,
+        Kind::Magnitudes => x.abs(),
+        Kind::Thirds => x / 3.0,
     }
 }
 
@@ -64,24 +78,27 @@ fn next(r: usize, i: usize) -> usize {
     i % 48 + 1 + mixed(r % HALF, 10 + i % 48) % 7
 }
 
-// Writes row r to the front of two lists, and answers how many entries it has.
-pub fn row(r: usize, kind: u64, indexes: &mut [u32; 12], values: &mut [f32; 12]) -> usize
-    ensures { result ≤ 12 }
-{
-    let n = mixed(r % HALF, 1) % 13;
+// Row r, which is written to the front of two lists. They are arrays, as no memory is asked for.
+pub fn row<'a>(
+    r: usize,
+    kind: Kind,
+    indexes: &'a mut [u32; 12],
+    values: &'a mut [f32; 12],
+) -> SVectBorrowed<'a> {
     let mut i = mixed(r % HALF, 2) % 6;
-    let mut at: usize = 0;
-    while at < 12 {
-        if n <= at {
-            break;
-        }
-        if 48 <= i {
+    let mut len = mixed(r % HALF, 1) % 13;
+    for at in 0..len {
+        if DIMS as usize <= i {
+            len = at;
             break;
         }
         indexes[at] = i as u32;
         values[at] = of_kind(kind, whole(r, i));
-        at += 1;
         i = next(r, i);
     }
-    at
+    SVectBorrowed {
+        dims: DIMS,
+        indexes: &indexes[..len],
+        values: &values[..len],
+    }
 }

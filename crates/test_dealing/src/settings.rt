@@ -4,46 +4,53 @@
 ghost use Rattle.std.specs.Prelude.{◌<◌, ◌≤◌};
 
 use crate::rows;
+use crate::rows::Kind;
+use cases::Line;
 
-// The deals. The rows go round the states.
-const TURNS: u64 = 0;
-
-// Each state has rows that follow one another; the last may have none.
-const BLOCKS: u64 = 1;
-
-// A scrambled number says which, and the first states have more rows than the last.
-const SCRAMBLED: u64 = 2;
-
-// The first state has nearly all rows, each other even one at most two, and the odd ones none.
-const FEW: u64 = 3;
+// The deals.
+#[derive(Clone, Copy)]
+pub enum Deal {
+    // The rows go round the states.
+    Turns,
+    // Each state has rows that follow one another; the last may have none.
+    Blocks,
+    // A scrambled number says which, and the first states have more rows than the last.
+    Scrambled,
+    // The first state has nearly all rows, each other even one at most two, and the odd ones none.
+    Few,
+}
 
 // The orders of the rows.
-const FORWARDS: u64 = 0;
+#[derive(Clone, Copy)]
+pub enum Order {
+    Forwards,
+    Backwards,
+    // In strides of 7919, which has no divisor in common with the number of rows.
+    Strides,
+}
 
-const BACKWARDS: u64 = 1;
-
-// In strides of 7919, which has no divisor in common with the number of rows.
-const STRIDES: u64 = 2;
-
-// The trees. The first state takes all others.
-const FIRST: u64 = 0;
-
-// The last takes all others, the nearest first.
-const LAST: u64 = 1;
-
-// Each takes the one after it, from the last on.
-const PASSED: u64 = 2;
-
-// State k takes 2k + 2 and 2k + 1, from the last on.
-const BALANCED: u64 = 3;
+// The trees.
+#[derive(Clone, Copy)]
+pub enum Tree {
+    // The first state takes all others.
+    First,
+    // The last takes all others, the nearest first.
+    Last,
+    // Each takes the one after it, from the last on.
+    Passed,
+    // State k takes 2k + 2 and 2k + 1, from the last on.
+    Balanced,
+}
 
 #[derive(Clone, Copy)]
 pub struct Setting {
     pub states: usize,
-    pub deal: u64,
-    pub order: u64,
-    pub tree: u64,
-    pub kind: u64,
+    pub deal: Deal,
+    pub order: Order,
+    pub tree: Tree,
+    pub kind: Kind,
+    ghost some: { 0 < states },
+    ghost few: { states ≤ 64 },
 }
 
 // A state, and the one that it takes.
@@ -53,149 +60,122 @@ pub struct Pair {
     pub other: usize,
 }
 
-// Whether five numbers are those of a setting.
-fn is_setting(n: &[u64; 5]) -> bool {
-    if 64 < n[0] {
-        return false;
-    }
-    if FEW < n[1] {
-        return false;
-    }
-    if STRIDES < n[2] {
-        return false;
-    }
-    if BALANCED < n[3] {
-        return false;
-    }
-    n[4] <= rows::THIRDS
-}
+impl TryFrom<u64> for Deal {
+    type Error = ();
 
-// The setting of a line, after its bar. One that cannot be read has no states.
-pub fn read(s: &[u8], bar: usize) -> Setting {
-    let mut n = [0u64; 5];
-    let r = cases::numbers(s, cases::next(s, bar), false, &mut n);
-    if r.many == 5 {
-        if r.at == s.len() {
-            if is_setting(&n) {
-                return Setting {
-                    states: n[0] as usize,
-                    deal: n[1],
-                    order: n[2],
-                    tree: n[3],
-                    kind: n[4],
-                };
-            }
+    fn try_from(n: u64) -> Result<Deal, ()> {
+        match n {
+            0 => Ok(Deal::Turns),
+            1 => Ok(Deal::Blocks),
+            2 => Ok(Deal::Scrambled),
+            3 => Ok(Deal::Few),
+            _ => Err(()),
         }
     }
-    Setting {
-        states: 0,
-        deal: TURNS,
-        order: FORWARDS,
-        tree: FIRST,
-        kind: rows::WHOLE,
-    }
 }
 
-// The number of the row that comes as the k-th.
-pub fn row_at(s: Setting, k: usize) -> usize {
-    let order = s.order;
-    let at = k % rows::ROWS;
-    match order {
-        FORWARDS => at,
-        BACKWARDS => rows::ROWS - 1 - at,
-        _ => at * 7919 % rows::ROWS,
-    }
-}
+impl TryFrom<u64> for Order {
+    type Error = ();
 
-// The remainder of x by a number of states, which is at most 64.
-fn modulo(x: usize, n: usize) -> usize
-    ensures { result < 64 }
-{
-    if n == 0 {
-        return 0;
-    }
-    x % n % 64
-}
-
-// How many rows each of n states has, in blocks.
-fn block(n: usize) -> usize
-    ensures { 0 < result }
-{
-    if n == 0 {
-        return rows::ROWS;
-    }
-    let each = rows::ROWS / n;
-    if each < rows::ROWS {
-        each + 1
-    } else {
-        rows::ROWS
-    }
-}
-
-// The state that row r goes to.
-pub fn state_of(s: Setting, r: usize) -> usize
-    ensures { result < 64 }
-{
-    let n = s.states;
-    let deal = s.deal;
-    match deal {
-        TURNS => modulo(r, n),
-        BLOCKS => modulo(r / block(n), n),
-        SCRAMBLED => modulo(rows::mixed(r, 7), 1 + modulo(rows::mixed(r, 8), n)),
-        _ => { if r < n { modulo(r / 2 * 2, 64) } else { 0 } }
-    }
-}
-
-// The k-th combine of so many states, counted from 1.
-fn pair_of(tree: u64, n: usize, k: usize) -> Pair
-    requires { (0 < k) × (k < n) × (n ≤ 64) }
-    ensures { (result.one < 64) × (result.other < 64) }
-{
-    match tree {
-        FIRST => Pair { one: 0, other: k },
-        LAST => Pair {
-            one: n - 1,
-            other: n - 1 - k,
-        },
-        PASSED => Pair {
-            one: n - 1 - k,
-            other: n - k,
-        },
-        _ => Pair {
-            one: (n - 1 - k) / 2,
-            other: n - k,
-        },
-    }
-}
-
-// The k-th combine of a setting, counted from 1.
-pub fn pair_at(s: Setting, k: usize) -> Pair
-    ensures { (result.one < 64) × (result.other < 64) }
-{
-    let tree = s.tree;
-    let n = s.states;
-    if n <= 64 {
-        if k < n {
-            if 0 < k {
-                return pair_of(tree, n, k);
-            }
+    fn try_from(n: u64) -> Result<Order, ()> {
+        match n {
+            0 => Ok(Order::Forwards),
+            1 => Ok(Order::Backwards),
+            2 => Ok(Order::Strides),
+            _ => Err(()),
         }
     }
-    Pair { one: 0, other: 0 }
 }
 
-// The state that has all rows after the last combine.
-pub fn root(s: Setting) -> usize
-    ensures { result < 64 }
-{
-    let tree = s.tree;
-    let n = s.states;
-    if tree == LAST {
-        if 0 < n {
-            if n <= 64 {
-                return n - 1;
-            }
+impl TryFrom<u64> for Tree {
+    type Error = ();
+
+    fn try_from(n: u64) -> Result<Tree, ()> {
+        match n {
+            0 => Ok(Tree::First),
+            1 => Ok(Tree::Last),
+            2 => Ok(Tree::Passed),
+            3 => Ok(Tree::Balanced),
+            _ => Err(()),
         }
     }
-    0
+}
+
+impl Setting {
+    // The setting of a line, after its bar.
+    pub fn read(mut line: Line<'_>) -> Option<Setting> {
+        line.next_part();
+        let mut n = [0; 5];
+        if line.numbers(10, &mut n) != 5 || !line.rest.is_empty() {
+            return None;
+        }
+        let [states, deal, order, tree, kind] = n;
+        if states == 0 || 64 < states {
+            return None;
+        }
+        Some(Setting {
+            states: states as usize,
+            deal: Deal::try_from(deal).ok()?,
+            order: Order::try_from(order).ok()?,
+            tree: Tree::try_from(tree).ok()?,
+            kind: Kind::try_from(kind).ok()?,
+        })
+    }
+
+    // The number of the row that comes as the k-th.
+    pub fn row_at(self, k: usize) -> usize {
+        let at = k % rows::ROWS;
+        match self.order {
+            Order::Forwards => at,
+            Order::Backwards => rows::ROWS - 1 - at,
+            Order::Strides => at * 7919 % rows::ROWS,
+        }
+    }
+
+    // The state that row r goes to.
+    pub fn state_of(self, r: usize) -> usize
+        ensures { result < 64 }
+    {
+        let n = self.states;
+        match self.deal {
+            Deal::Turns => r % n,
+            Deal::Blocks => r / (rows::ROWS / n + 1) % n,
+            Deal::Scrambled => rows::mixed(r, 7) % (rows::mixed(r, 8) % n + 1),
+            Deal::Few if r < n => r - r % 2,
+            Deal::Few => 0,
+        }
+    }
+
+    // The k-th combine, counted from 1.
+    pub fn pair_at(self, k: usize) -> Pair
+        requires { (0 < k) × (k < self.states) }
+        ensures { (result.one < 64) × (result.other < 64) }
+    {
+        let n = self.states;
+        match self.tree {
+            Tree::First => Pair { one: 0, other: k },
+            Tree::Last => Pair {
+                one: n - 1,
+                other: n - 1 - k,
+            },
+            Tree::Passed => Pair {
+                one: n - 1 - k,
+                other: n - k,
+            },
+            Tree::Balanced => Pair {
+                one: (n - 1 - k) / 2,
+                other: n - k,
+            },
+        }
+    }
+
+    // The state that has all rows after the last combine.
+    pub fn root(self) -> usize
+        ensures { result < 64 }
+    {
+        match self.tree {
+            Tree::Last => self.states - 1,
+            _ => 0,
+        }
+    }
 }

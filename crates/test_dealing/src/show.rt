@@ -1,50 +1,51 @@
-// Prints what happened in a setting, and the sum and the average of its total.
+// Prints what happened in a setting, and the sum and the average of its total, which are written to arrays, as no memory is
+// asked for.
 
-use crate::states::{Indexes, Values};
 use crate::table::Tally;
 use aggregate_svecf32::Header;
-use refusal::Written;
+use refusal::{Refusal, Written};
+use regions::Lists;
 
-// What happened in a setting.
-pub fn tally(t: Tally) {
+// What happened in a setting, and the refusal that ended it, if one did.
+pub fn tally(t: Tally, end: Result<(), Refusal>) {
     shown::text(b"; moves for rows");
     shown::number(t.rows as u64);
     shown::text(b", for combines");
     shown::number(t.combines as u64);
     shown::text(b", seconds brought over");
     shown::number(t.brought as u64);
-    if t.number != refusal::DONE {
-        shown::refused(t.number, t.place);
+    if let Err(e) = end {
+        shown::refused(e);
     }
     shown::text(b"\n");
 }
 
-fn written(r: Written, indexes: &[u32; 48], values: &[f32; 48]) {
+fn written(r: Result<Written, Refusal>, indexes: &[u32], values: &[f32]) {
     match r {
-        Written::Done(dims, n) => shown::entries(indexes, values, n),
-        Written::Refused(n, p) => shown::refused(n, p),
+        Ok(w) => shown::entries(indexes, values, w.len),
+        Err(e) => shown::refused(e),
     }
 }
 
-fn sum(h: Header, ai: &Indexes, av: &Values) {
-    let mut oi = [0u32; 48];
-    let mut ov = [0.0f32; 48];
+fn sum(h: Header, lists: Lists<'_>) {
+    let mut oi = [0; 48];
+    let mut ov = [0.0; 48];
     shown::text(b" sum");
-    written(h.sum(ai, av, &mut oi, &mut ov), &oi, &ov);
+    written(h.sum(lists, &mut oi, &mut ov), &oi, &ov);
 }
 
-fn average(h: Header, ai: &Indexes, av: &Values) {
-    let mut oi = [0u32; 48];
-    let mut ov = [0.0f32; 48];
+fn average(h: Header, lists: Lists<'_>) {
+    let mut oi = [0; 48];
+    let mut ov = [0.0; 48];
     shown::text(b" average");
-    written(h.average(ai, av, &mut oi, &mut ov), &oi, &ov);
+    written(h.average(lists, &mut oi, &mut ov), &oi, &ov);
 }
 
 // The count, the sum and the average of a state.
-pub fn total(h: Header, ai: &Indexes, av: &Values) {
+pub fn total(h: Header, lists: Lists<'_>) {
     shown::text(b"count");
     shown::number(h.count);
-    sum(h, ai, av);
-    average(h, ai, av);
+    sum(h, lists);
+    average(h, lists);
     shown::text(b"\n");
 }

@@ -1,15 +1,18 @@
 // A state and what is done with it. A state owns a region in each of two pairs of lists and lies in one of the
-// two, which is the first pair that these functions are lent. Where it needs room it moves to the other.
-
-ghost use Rattle.std.specs.Prelude.{◌≤◌};
+// two, which is `here`, the first pair that these functions are lent. Where it needs room it moves to the other.
 
 use crate::rows;
-use aggregate_svecf32::{Header, Told};
+use aggregate_svecf32::Header;
+use refusal::Refusal;
+use regions::Lists;
+use sparse::SVectBorrowed;
 
-// The lists of a pair: 48 places for each of 64 states.
-pub type Indexes = [u32; 3072];
-
-pub type Values = [f32; 3072];
+// A pair of lists: 48 places for each of 64 states. They are arrays, as no memory is asked for.
+#[derive(Drop)]
+pub struct Store {
+    indexes: [u32; 3072],
+    values: [f32; 3072],
+}
 
 // A state, and whether it lies in the pair B.
 #[derive(Clone, Copy)]
@@ -18,172 +21,102 @@ pub struct State {
     pub in_b: bool,
 }
 
-// The state that a call left, and DONE; or the number and the place with which it refused.
-#[derive(Clone, Copy)]
-pub struct Step {
-    pub state: State,
-    pub number: u32,
-    pub place: usize,
-}
+impl Store {
+    // Lists of entries that belong to no state.
+    pub fn new() -> Store {
+        Store {
+            indexes: [4294967295; 3072],
+            values: [9.0; 3072],
+        }
+    }
 
-// What a call told, with the header that it handed back. The two flags say whether that state lies in the pair B
-// after the call was done, and after it was refused.
-fn step_of(told: Told, done_in_b: bool, refused_in_b: bool) -> Step {
-    match told {
-        Told::Done(h, turns) => Step {
-            state: State {
-                header: h,
-                in_b: done_in_b,
-            },
-            number: refusal::DONE,
-            place: 0,
-        },
-        Told::Refused(h, number, place) => Step {
-            state: State {
-                header: h,
-                in_b: refused_in_b,
-            },
-            number: number,
-            place: place,
-        },
+    pub fn lists(&self) -> Lists<'_> {
+        Lists {
+            indexes: &self.indexes,
+            values: &self.values,
+        }
     }
 }
 
-// Moves a state to the other pair, with the capacity for `more` entries more.
-fn move_over(
-    s: State,
-    ai: &Indexes,
-    av: &Values,
-    more: usize,
-    bi: &mut Indexes,
-    bv: &mut Values,
-) -> Step {
-    let h = s.header;
-    step_of(
-        h.move_to(ai, av, more, bi, bv, h.start, h.length),
-        !s.in_b,
-        s.in_b,
-    )
-}
-
-// Brings a state to the other pair as it is: a state without rows takes it there.
-fn bring(s: State, ai: &Indexes, av: &Values, bi: &mut Indexes, bv: &mut Values) -> Step {
-    let h = s.header;
-    let fresh = aggregate_svecf32::fresh(h.start, h.length);
-    step_of(fresh.combine(bi, bv, h, ai, av), !s.in_b, !s.in_b)
-}
-
-// Feeds to a state the row of the first n entries of two lists.
-fn row(
-    s: State,
-    ai: &mut Indexes,
-    av: &mut Values,
-    xi: &[u32; 12],
-    xv: &[f32; 12],
-    n: usize,
-) -> Step
-    requires { n ≤ 12 }
-{
-    let i = &xi[..];
-    let v = &xv[..];
-    step_of(
-        s.header.row(ai, av, rows::DIMS, &i[0..n], &v[0..n]),
-        s.in_b,
-        s.in_b,
-    )
-}
-
-// Feeds a row to a state. On NEED the state moves, and is fed again.
-pub fn feed(
-    s: State,
-    ai: &mut Indexes,
-    av: &mut Values,
-    bi: &mut Indexes,
-    bv: &mut Values,
-    xi: &[u32; 12],
-    xv: &[f32; 12],
-    n: usize,
-) -> Step
-    requires { n ≤ 12 }
-{
-    let fed = row(s, ai, av, xi, xv, n);
-    if fed.number != refusal::NEED {
-        return fed;
+impl State {
+    // Moves to the other pair, with the capacity for `more` entries more.
+    fn move_over(&mut self, here: &Store, more: usize, there: &mut Store) -> Result<(), Refusal> {
+        let Header { start, length, .. } = self.header;
+        let Store { indexes, values } = there;
+        self.header
+            .move_to(here.lists(), more, indexes, values, start, length)?;
+        self.in_b = !self.in_b;
+        Ok(())
     }
-    let moved = move_over(fed.state, ai, av, n, bi, bv);
-    if moved.number != refusal::DONE {
-        return moved;
-    }
-    row(moved.state, bi, bv, xi, xv, n)
-}
 
-// Combines a second state, which lies in the other pair, into a state.
-fn take(
-    s: State,
-    ai: &mut Indexes,
-    av: &mut Values,
-    other: State,
-    bi: &Indexes,
-    bv: &Values,
-) -> Step {
-    step_of(
-        s.header.combine(ai, av, other.header, bi, bv),
-        s.in_b,
-        s.in_b,
-    )
-}
+    // Goes to the other pair as it is: a state without rows takes it there.
+    fn bring(&mut self, here: &Store, there: &mut Store) -> Result<(), Refusal> {
+        let mut brought = aggregate_svecf32::fresh(self.header.start, self.header.length);
+        let Store { indexes, values } = there;
+        brought.combine(indexes, values, self.header, here.lists())?;
+        self.header = brought;
+        self.in_b = !self.in_b;
+        Ok(())
+    }
 
-// Moves a state to the other pair, brings the second, which lay there, to this one, and combines them.
-fn move_and_take(
-    s: State,
-    ai: &mut Indexes,
-    av: &mut Values,
-    other: State,
-    bi: &mut Indexes,
-    bv: &mut Values,
-) -> Step {
-    let moved = move_over(s, ai, av, other.header.len, bi, bv);
-    if moved.number != refusal::DONE {
-        return moved;
+    // Takes a row.
+    fn row(&mut self, here: &mut Store, row: SVectBorrowed<'_>) -> Result<(), Refusal> {
+        let Store { indexes, values } = here;
+        self.header.row(indexes, values, row)?;
+        Ok(())
     }
-    let brought = bring(other, bi, bv, ai, av);
-    if brought.number != refusal::DONE {
-        return brought;
-    }
-    take(moved.state, bi, bv, brought.state, ai, av)
-}
 
-// Combines a second state, which lies in the other pair, into a state. On NEED the state moves.
-fn take_with_room(
-    s: State,
-    ai: &mut Indexes,
-    av: &mut Values,
-    other: State,
-    bi: &mut Indexes,
-    bv: &mut Values,
-) -> Step {
-    let taken = take(s, ai, av, other, bi, bv);
-    if taken.number != refusal::NEED {
-        return taken;
+    // Takes a row. On NEED the state moves, and is fed again.
+    pub fn feed(
+        &mut self,
+        here: &mut Store,
+        there: &mut Store,
+        row: SVectBorrowed<'_>,
+    ) -> Result<(), Refusal> {
+        match self.row(here, row) {
+            Err(Refusal::Need(_)) => {
+                self.move_over(here, row.indexes.len(), there)?;
+                self.row(there, row)
+            }
+            r => r,
+        }
     }
-    move_and_take(taken.state, ai, av, other, bi, bv)
-}
 
-// Combines a second state into a state, whichever pair it lies in.
-pub fn join(
-    s: State,
-    ai: &mut Indexes,
-    av: &mut Values,
-    other: State,
-    bi: &mut Indexes,
-    bv: &mut Values,
-) -> Step {
-    if other.in_b != s.in_b {
-        return take_with_room(s, ai, av, other, bi, bv);
+    // Takes a second state, which lies in the other pair.
+    fn take(&mut self, here: &mut Store, other: State, there: &Store) -> Result<(), Refusal> {
+        let Store { indexes, values } = here;
+        self.header
+            .combine(indexes, values, other.header, there.lists())?;
+        Ok(())
     }
-    let brought = bring(other, ai, av, bi, bv);
-    if brought.number != refusal::DONE {
-        return brought;
+
+    // Takes a second state, which lies in the other pair. On NEED the state moves there, and the second comes here.
+    fn take_with_room(
+        &mut self,
+        here: &mut Store,
+        mut other: State,
+        there: &mut Store,
+    ) -> Result<(), Refusal> {
+        match self.take(here, other, there) {
+            Err(Refusal::Need(_)) => {
+                self.move_over(here, other.header.len, there)?;
+                other.bring(there, here)?;
+                self.take(there, other, here)
+            }
+            r => r,
+        }
     }
-    take_with_room(s, ai, av, brought.state, bi, bv)
+
+    // Takes a second state, whichever pair it lies in.
+    pub fn join(
+        &mut self,
+        here: &mut Store,
+        mut other: State,
+        there: &mut Store,
+    ) -> Result<(), Refusal> {
+        if other.in_b == self.in_b {
+            other.bring(here, there)?;
+        }
+        self.take_with_room(here, other, there)
+    }
 }

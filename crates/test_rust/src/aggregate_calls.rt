@@ -1,84 +1,81 @@
 // The calls of `aggregate_svecf32`: a capacity, the average of a state with any count, or a run of steps on two states.
 
-use crate::names::Call;
-use crate::{run_steps, show, states};
+use crate::read::Room;
+use crate::run_steps::Step;
+use crate::states::States;
+use crate::{run_steps, show};
 use aggregate_svecf32::Header;
+use cases::Line;
+use regions::Lists;
 
 // The capacity for so many entries.
-fn capacity(s: &[u8], from: usize) -> bool {
-    let dims = cases::dims(s, from);
-    let start = cases::after(s, dims.at, b' ');
-    let n = cases::number(s, start, false);
-    if n.at == start || n.at != s.len() {
-        return false;
+fn capacity(mut line: Line<'_>) -> Option<()> {
+    let dims = line.dims().unwrap_or(0);
+    line.skip(b' ');
+    let n = line.number(10)?;
+    if !line.rest.is_empty() {
+        return None;
     }
-    shown::digits(aggregate_svecf32::capacity(dims.value, n.value as usize) as u64);
-    true
+    shown::digits(aggregate_svecf32::capacity(dims, n as usize) as u64);
+    Some(())
 }
 
-// A state that holds the n entries in front of lists of 256.
-fn holding(dims: u32, n: usize, count: u64) -> Header {
-    Header {
+// The average of a state that holds a vector, with a count. The entries stand in front of lists of 256, all of which is
+// the state's region.
+fn average(mut line: Line<'_>) -> Option<()> {
+    let mut ai = [0; 256];
+    let mut av = [0.0; 256];
+    let mut oi = [0; 256];
+    let mut ov = [0.0; 256];
+    line.next_part();
+    let count = line.number(10)?;
+    line.skip(b' ');
+    let dims = line.dims()?;
+    let len = line.entries(&mut ai, &mut av).indexes;
+    if !line.rest.is_empty() {
+        return None;
+    }
+    let holding = Header {
         start: 0,
         length: 256,
         begun: true,
-        dims: dims,
-        len: n,
-        capacity: aggregate_svecf32::capacity(dims, n),
-        count: count,
-    }
+        dims,
+        len,
+        capacity: aggregate_svecf32::capacity(dims, len),
+        count,
+    };
+    let lists = Lists {
+        indexes: &ai,
+        values: &av,
+    };
+    show::sparse(holding.average(lists, &mut oi, &mut ov), &oi, &ov);
+    Some(())
 }
 
-// The average of a state that holds a vector, with a count.
-fn average(s: &[u8], from: usize) -> bool {
-    let mut ai = [0u32; 256];
-    let mut av = [0.0f32; 256];
-    let mut oi = [0u32; 256];
-    let mut ov = [0.0f32; 256];
-    let start = cases::next(s, from);
-    let count = cases::number(s, start, false);
-    let bar = cases::after(s, count.at, b' ');
-    let dims = cases::dims(s, bar);
-    let v = cases::vector(s, bar, dims, &mut ai, &mut av);
-    if count.at == start || v.at == bar || v.at != s.len() {
-        return false;
-    }
-    let r = holding(dims.value, v.indexes, count.value).average(&ai, &av, &mut oi, &mut ov);
-    show::sparse(r, &oi, &ov);
-    true
-}
-
-// Runs steps, up to the first that is refused.
-fn run(s: &[u8], from: usize) {
-    let mut ai = [0u32; 1024];
-    let mut av = [0.0f32; 1024];
-    let mut bi = [0u32; 1024];
-    let mut bv = [0.0f32; 1024];
-    let mut both = states::fresh();
-    let mut at = from;
-    while at < s.len() {
-        if from < at {
+// Runs steps, up to the first that is refused. Each step takes a byte at least.
+fn run(mut line: Line<'_>) {
+    let mut room = Room::empty();
+    let mut both = States::empty();
+    for i in 0..line.rest.len() {
+        let Some(step) = Step::read(&mut line, &mut room) else {
+            return;
+        };
+        if i != 0 {
             shown::text(b" | ");
         }
-        let next = states::step(s, at, both, &mut ai, &mut av, &mut bi, &mut bv);
-        if next.at <= at {
+        if !both.step(step) {
             return;
         }
-        at = next.at;
-        both = next.states;
     }
 }
 
 // Answers whether it is a request.
-pub fn case(s: &[u8], from: usize, call: Call) -> bool {
+pub fn case(call: &[u8], line: Line<'_>) -> bool {
     match call {
-        Call::Capacity => capacity(s, from),
-        Call::Average => average(s, from),
-        Call::Run => {
-            if !run_steps::are_steps(s, from) {
-                return false;
-            }
-            run(s, from);
+        b"capacity" => capacity(line).is_some(),
+        b"average" => average(line).is_some(),
+        b"run" if run_steps::are_steps(line) => {
+            run(line);
             true
         }
         _ => false,

@@ -33,50 +33,42 @@
 // A request may end in ` ; TEXT`, and the answer then ends so too. A line that starts with `#` is printed as it is.
 // The program stops at a line that it cannot read, and says so.
 //
-// A sparse vector has at most 256 entries, a written one 512, a state 1,024, and a bit vector 1,024 words. Add and sub
-// are lent the room that they ask for, and no more.
+// A sparse vector has at most 256 entries, a written one 512, a state 1,024, and a bit vector 1,024 words: all stand in
+// arrays of so many, as no memory is asked for. Add and sub are lent the room that they ask for, and no more.
 #![tactic(auto)]
 
 mod aggregate_calls;
 mod bit_calls;
-mod bit_vectors;
 mod bvect_calls;
-mod names;
 mod read;
 mod run_steps;
 mod show;
 mod states;
 mod svect_calls;
 
-ghost use Rattle.std.specs.Prelude.{◌≤◌, length};
+use cases::Line;
 
-use names::File;
-
-// Answers a request. Answers whether it is one.
-fn answer(s: &[u8]) -> bool {
-    let file = cases::name(s, 0);
-    let call = cases::name(s, cases::after(s, file.at, b' '));
-    let from = cases::after(s, call.at, b' ');
-    match names::file_of(file.value) {
-        File::Svect => svect_calls::case(s, from, names::call_of(call.value)),
-        File::Bvect => bit_vectors::case(s, from, names::call_of(call.value), true),
-        File::Bit => bit_vectors::case(s, from, names::call_of(call.value), false),
-        File::Aggregate => aggregate_calls::case(s, from, names::call_of(call.value)),
-        File::Unknown => false,
+// Answers a request. Answers whether it is one. A file and a call are named as `cases` reads names.
+fn answer(mut line: Line<'_>) -> bool {
+    let file = line.name();
+    line.skip(b' ');
+    let call = line.name();
+    line.skip(b' ');
+    match file {
+        b"svect" => read::sparse_vectors(line, |h| svect_calls::run(call, h)),
+        b"bvect" => read::bit_vectors(line, |h| bvect_calls::run(call, h)),
+        b"bit" => read::bit_vectors(line, |h| bit_calls::run(call, h)),
+        b"ggregate" => aggregate_calls::case(call, line),
+        _ => false,
     }
 }
 
-// Where the request of a line ends: before ` ;`, or at the end of the line.
-fn end(s: &[u8]) -> usize
-    ensures { result ≤ length s.now }
-{
-    let mark = cases::find(s, 0, b';');
-    if 0 < mark {
-        if mark < s.len() {
-            return mark - 1;
-        }
+// The request of a line, which ends before ` ;` or at the end of the line, and what follows it.
+fn parts(s: &[u8]) -> (&[u8], &[u8]) {
+    match s.iter().position(|c| *c == b';') {
+        Some(mark) => s.split_at(mark.saturating_sub(1)),
+        None => (s, &[]),
     }
-    mark
 }
 
 // Answers one line. Answers whether it is a comment or a request.
@@ -84,30 +76,16 @@ fn line(s: &[u8]) -> bool {
     if cases::comment(s) {
         return true;
     }
-    let n = end(s);
-    if !answer(&s[0..n]) {
+    let (request, rest) = parts(s);
+    if !answer(Line { rest: request }) {
         shown::text(b"this is no case\n");
         return false;
     }
-    shown::text(&s[n..]);
+    shown::text(rest);
     shown::text(b"\n");
     true
 }
 
-// Answers the lines, up to the first that is no request.
-fn lines(s: &[u8]) {
-    let mut at: usize = 0;
-    while at < s.len() {
-        let end = cases::find(s, at, b'\n');
-        if !line(&s[at..end]) {
-            return;
-        }
-        at = end + 1;
-    }
-}
-
 fn main() {
-    let mut space = cases::room();
-    let n = cases::input(&mut space);
-    lines(&space[..n]);
+    cases::run(line);
 }

@@ -1,30 +1,116 @@
-// Reads vectors after their dims, which were looked for from a place on. A vector whose dims are not there is not there,
-// and the place is not moved.
+// Reads what a call is handed: vectors and the bounds of a slice. What is not there is None.
 
-ghost use Rattle.std.specs.Prelude.{◌≤◌};
-ghost use Rattle.cases.specs.Room.{Within};
+use bit::BVectBorrowed;
+use cases::Line;
+use sparse::SVectBorrowed;
+use std::ops::Bound;
 
-use cases::{Several, Shape, Small};
-
-// The entries of a sparse vector.
-pub fn entries(
-    s: &[u8],
-    from: usize,
-    dims: Small,
-    indexes: &mut [u32; 256],
-    values: &mut [f32; 256],
-) -> Shape
-    ensures { Within 256 result }
-{
-    cases::vector(s, from, dims, indexes, values)
+// What a call is handed: a vector; and a second one, or the bounds of a slice, or none of both.
+#[derive(Clone, Copy)]
+pub struct Handed<V> {
+    pub first: V,
+    pub second: Option<V>,
+    pub slice: Option<(Bound<u32>, Bound<u32>)>,
 }
 
-// The words of a bit vector.
-pub fn words(s: &[u8], from: usize, dims: Small, list: &mut [u64; 1024]) -> Several
-    ensures { result.many ≤ 1024 }
-{
-    if dims.at == from {
-        return Several { many: 0, at: from };
+// Room for the entries of a sparse vector: lists of so many. They are arrays, as no memory is asked for.
+#[derive(Drop)]
+pub struct Room {
+    indexes: [u32; 256],
+    values: [f32; 256],
+}
+
+impl Room {
+    pub fn empty() -> Room {
+        Room {
+            indexes: [0; 256],
+            values: [0.0; 256],
+        }
     }
-    cases::numbers(s, cases::after(s, dims.at, b' '), true, list)
+
+    // The vector of `dims` places whose entries are next.
+    pub fn entries(&mut self, line: &mut Line<'_>, dims: u32) -> SVectBorrowed<'_> {
+        let Room { indexes, values } = self;
+        let shape = line.entries(indexes, values);
+        SVectBorrowed {
+            dims,
+            indexes: &indexes[..shape.indexes],
+            values: &values[..shape.values],
+        }
+    }
+
+    // A sparse vector.
+    pub fn vector(&mut self, line: &mut Line<'_>) -> Option<SVectBorrowed<'_>> {
+        let dims = line.dims()?;
+        Some(self.entries(line, dims))
+    }
+}
+
+// A bit vector, whose words go to the front of a list.
+fn bits<'a>(line: &mut Line<'_>, list: &'a mut [u64; 1024]) -> Option<BVectBorrowed<'a>> {
+    let dims = line.dims()?;
+    line.skip(b' ');
+    let n = line.numbers(16, list);
+    Some(BVectBorrowed {
+        dims,
+        data: &list[..n],
+    })
+}
+
+// The bounds of a slice.
+fn slice(line: &mut Line<'_>) -> Option<(Bound<u32>, Bound<u32>)> {
+    let before = line.rest.len();
+    let bounds = line.bounds();
+    (line.rest.len() != before).then_some(bounds)
+}
+
+impl<V: Copy> Handed<V> {
+    // What a line hands a call, of which the vectors are read; None where there is no first one, or something is left that
+    // cannot be read.
+    fn read(mut line: Line<'_>, first: Option<V>, second: Option<V>) -> Option<Handed<V>> {
+        let slice = slice(&mut line);
+        if !line.rest.is_empty() {
+            return None;
+        }
+        Some(Handed {
+            first: first?,
+            second,
+            slice,
+        })
+    }
+}
+
+// Runs a call on the sparse vectors of a request. Answers whether it is a request.
+pub fn sparse_vectors<F: FnOnce(Handed<SVectBorrowed<'_>>) -> bool + Drop>(
+    mut line: Line<'_>,
+    run: F,
+) -> bool
+    requires { F.IsAlwaysCallable run }
+{
+    let mut room_a = Room::empty();
+    let mut room_b = Room::empty();
+    let a = room_a.vector(&mut line);
+    let b = room_b.vector(&mut line);
+    match Handed::read(line, a, b) {
+        Some(h) => run(h),
+        None => false,
+    }
+}
+
+// Runs a call on the bit vectors of a request. Answers whether it is a request.
+pub fn bit_vectors<F: FnOnce(Handed<BVectBorrowed<'_>>) -> bool + Drop>(
+    mut line: Line<'_>,
+    run: F,
+) -> bool
+    requires { F.IsAlwaysCallable run }
+{
+    // The words stand in arrays, as no memory is asked for.
+    let mut words_a = [0; 1024];
+    let mut words_b = [0; 1024];
+    let a = bits(&mut line, &mut words_a);
+    let b = bits(&mut line, &mut words_b);
+    match Handed::read(line, a, b) {
+        Some(h) => run(h),
+        None => false,
+    }
 }

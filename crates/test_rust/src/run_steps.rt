@@ -1,69 +1,55 @@
 // Reads the steps of a run.
 
-use crate::names::Step;
-use crate::{names, read};
+use crate::read::Room;
+use cases::Line;
+use sparse::SVectBorrowed;
 
-// A step, the place where what it is handed starts, and the place after it. What cannot be read is no known step, and
-// the place is not moved.
-#[derive(Drop)]
-pub struct Found {
-    pub step: Step,
-    pub from: usize,
-    pub at: usize,
+// A step, with the row that it is handed.
+#[derive(Clone, Copy)]
+pub enum Step<'a> {
+    First(SVectBorrowed<'a>),
+    Second(SVectBorrowed<'a>),
+    Combine,
+    Sum,
+    Average,
 }
 
-// The place after the row that starts at a place, or 0 where there is none.
-fn after_row(s: &[u8], from: usize) -> usize {
-    let mut indexes = [0u32; 256];
-    let mut values = [0.0f32; 256];
-    let dims = cases::small_number(s, from, false);
-    let row = read::entries(s, from, dims, &mut indexes, &mut values);
-    if row.at == from {
-        return 0;
-    }
-    row.at
+// A row, which has its dims and its entries.
+fn row<'a>(line: &mut Line<'_>, room: &'a mut Room) -> Option<SVectBorrowed<'a>> {
+    let dims = line.small(10)?;
+    Some(room.entries(line, dims))
 }
 
-// The place after what a step is handed, which starts at a place, or 0 where the step cannot be read.
-fn after_step(s: &[u8], step: Step, from: usize) -> usize {
-    match step {
-        Step::First => after_row(s, from),
-        Step::Second => after_row(s, from),
-        Step::Unknown => 0,
-        _ => from,
-    }
-}
-
-// The step after the bar that stands at a place.
-pub fn step_at(s: &[u8], at: usize) -> Found {
-    let bar = cases::after(s, at, b'|');
-    let name = cases::name(s, cases::after(s, bar, b' '));
-    let from = cases::after(s, name.at, b' ');
-    let step = names::step_of(name.value);
-    let end = after_step(s, step, from);
-    if bar == at || end <= at {
-        return Found {
-            step: Step::Unknown,
-            from: at,
-            at: at,
-        };
-    }
-    Found {
-        step: step,
-        from: from,
-        at: end,
+impl<'a> Step<'a> {
+    // The step after a bar. The entries of its row go to the room.
+    pub fn read(line: &mut Line<'_>, room: &'a mut Room) -> Option<Step<'a>> {
+        if !line.skip(b'|') {
+            return None;
+        }
+        line.skip(b' ');
+        let name = line.name();
+        line.skip(b' ');
+        match name {
+            b"first" => Some(Step::First(row(line, room)?)),
+            b"second" => Some(Step::Second(row(line, room)?)),
+            b"combine" => Some(Step::Combine),
+            b"sum" => Some(Step::Sum),
+            b"average" => Some(Step::Average),
+            _ => None,
+        }
     }
 }
 
-// Whether a line has steps from a place on, and can be read to its end.
-pub fn are_steps(s: &[u8], from: usize) -> bool {
-    let mut at = from;
-    while at < s.len() {
-        let end = step_at(s, at).at;
-        if end <= at {
+// Whether a line has steps, and can be read to its end. Each step takes a byte at least.
+pub fn are_steps(mut line: Line<'_>) -> bool {
+    let mut room = Room::empty();
+    for _ in line.rest {
+        if Step::read(&mut line, &mut room).is_none() {
             return false;
         }
-        at = end;
+        if line.rest.is_empty() {
+            return true;
+        }
     }
-    from < at
+    false
 }

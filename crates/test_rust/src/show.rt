@@ -1,73 +1,42 @@
 // Prints distances, vectors and states with no space in front.
 
-use aggregate_svecf32::{Header, Told};
-use refusal::{Distance, Merged, Written};
+use aggregate_svecf32::Header;
+use refusal::{Refusal, Written};
 
-pub fn distance(r: Distance) {
-    match r {
-        Distance::Value(x) => shown::bits(x),
-        Distance::Refused(n, p) => shown::bare::refused(n, p),
-    }
+pub fn distance(r: Result<f32, Refusal>) {
+    shown::bare::answered(r, shown::bits);
 }
 
 // A sparse vector that was written to two lists.
-pub fn sparse(r: Written, indexes: &[u32], values: &[f32]) {
-    match r {
-        Written::Done(dims, n) => {
-            shown::digits(dims as u64);
-            shown::entries(indexes, values, n);
+pub fn sparse(r: Result<Written, Refusal>, indexes: &[u32], values: &[f32]) {
+    shown::bare::answered(r, |w| {
+        shown::digits(w.dims as u64);
+        shown::entries(indexes, values, w.len);
+    });
+}
+
+// Lends a list to a call that writes a bit vector, and shows what it wrote.
+pub fn bits<F: FnOnce(&mut [u64]) -> Result<Written, Refusal> + Drop>(write: F)
+    requires { F.IsAlwaysCallable write }
+{
+    // The list is an array, as no memory is asked for.
+    let mut list = [0; 1024];
+    let r = write(&mut list);
+    shown::bare::answered(r, |w| {
+        shown::digits(w.dims as u64);
+        for word in list.iter().take(w.len) {
+            shown::text(b" ");
+            shown::hex(*word);
         }
-        Written::Refused(n, p) => shown::bare::refused(n, p),
-    }
-}
-
-// The same of two vectors put together.
-pub fn merged(r: Merged, indexes: &[u32; 512], values: &[f32; 512]) {
-    match r {
-        Merged::Done(dims, n, turns) => sparse(Written::Done(dims, n), indexes, values),
-        Merged::Refused(n, p) => shown::bare::refused(n, p),
-    }
-}
-
-fn word(w: u64) {
-    shown::text(b" ");
-    shown::hex(w);
-}
-
-// The first n words of a list.
-fn words(list: &[u64; 1024], n: usize) {
-    let mut at: usize = 0;
-    while at < 1024 {
-        if n <= at {
-            return;
-        }
-        word(list[at]);
-        at += 1;
-    }
-}
-
-// A bit vector that was written to a list.
-pub fn bits(r: Written, list: &[u64; 1024]) {
-    match r {
-        Written::Done(dims, n) => {
-            shown::digits(dims as u64);
-            words(list, n);
-        }
-        Written::Refused(n, p) => shown::bare::refused(n, p),
-    }
-}
-
-fn state(h: Header) {
-    shown::digits(h.dims as u64);
-    shown::number(h.len as u64);
-    shown::number(h.capacity as u64);
-    shown::number(h.count);
+    });
 }
 
 // The state that a call left, or its refusal.
-pub fn told(r: &Told) {
-    match r {
-        Told::Done(h, _) => state(*h),
-        Told::Refused(_, n, p) => shown::bare::refused(*n, *p),
-    }
+pub fn told(h: Header, r: Result<(), Refusal>) {
+    shown::bare::answered(r, |()| {
+        shown::digits(h.dims as u64);
+        shown::number(h.len as u64);
+        shown::number(h.capacity as u64);
+        shown::number(h.count);
+    });
 }

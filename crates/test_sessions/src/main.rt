@@ -5,21 +5,22 @@
 
 mod spelled;
 
-// Prints the answer to the session of the first n bytes. Answers whether there was room for it.
-fn answer(s: &[u8], n: usize) -> bool {
-    if s.len() <= n {
-        return cases::ended(false);
+use cases::Line;
+use spelled::Made;
+
+// Prints the answer to the session that is spelled after a bar.
+fn answer(line: &mut Line<'_>) -> Option<()> {
+    if !line.skip(b'|') {
+        return None;
     }
+    line.skip(b' ');
+    let mut made = Made::new();
+    spelled::bytes(line, &mut made)?;
     let mut out = [0u8; 8192];
-    let m = session::answer(&s[0..n], &mut out);
+    let m = session::answer(made.bytes(), &mut out);
     shown::text(b" ");
     shown::text(&out[..m]);
-    true
-}
-
-// The same of an array, whose length is known.
-fn session(s: &[u8; 16384], n: usize) -> bool {
-    answer(s, n)
+    Some(())
 }
 
 // Answers one line. Answers whether it is a comment or a session.
@@ -27,30 +28,14 @@ fn line(s: &[u8]) -> bool {
     if cases::comment(s) {
         return true;
     }
-    let bar = cases::label(s);
-    let from = cases::next(s, bar);
-    if from == bar {
-        return cases::ended(false);
-    }
-    let mut space = [0u8; 16384];
-    let n = spelled::bytes(s, from, &mut space);
-    session(&space, n)
-}
-
-// Answers the lines, up to the first that is no session.
-fn lines(s: &[u8]) {
-    let mut at: usize = 0;
-    while at < s.len() {
-        let end = cases::find(s, at, b'\n');
-        if !line(&s[at..end]) {
-            return;
-        }
-        at = end + 1;
+    let mut line = Line { rest: s };
+    line.label();
+    match answer(&mut line) {
+        Some(()) => true,
+        None => cases::ended(false),
     }
 }
 
 fn main() {
-    let mut space = cases::room();
-    let n = cases::input(&mut space);
-    lines(&space[..n]);
+    cases::run(|s| line(s));
 }

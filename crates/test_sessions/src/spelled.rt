@@ -4,172 +4,139 @@
 //     \xHH           the byte of two hex digits
 //     \{N:TEXT}      a text N times, in which \# is how often it stood there before: `\{3: \#:x}` is ` 0:x 1:x 2:x`
 //
-// and every other byte as it is. There are fewer than 16,384 bytes. Where there are more, or something cannot be read,
-// 16,384 is answered.
+// and every other byte as it is. Each reader takes what it reads off the front of a line. It answers None where it cannot
+// read that, or where there are more bytes than there is room for.
 
-use cases::Small;
+ghost use Rattle.std.specs.Prelude.{◌≤◌};
 
-// How many bytes there are so far, and the place after what they were read from.
-#[derive(Clone, Copy)]
-struct Made {
-    many: usize,
-    at: usize,
+use cases::Line;
+
+// How many bytes there is room for.
+const ROOM: usize = 16383;
+
+// The bytes so far: a list of a fixed size, since the program has no heap.
+#[derive(Drop)]
+pub struct Made {
+    list: [u8; ROOM],
+    len: usize,
+    ghost within: { len ≤ 16383 },
 }
 
-// One byte more, if there is room.
-fn put(out: &mut [u8; 16384], many: usize, c: u8) -> usize {
-    if many < 16384 {
-        out[many] = c;
-        return many + 1;
-    }
-    many
-}
-
-// The last three digits of a number, without zeros in front.
-fn number(out: &mut [u8; 16384], many: usize, n: usize) -> usize {
-    let mut to = many;
-    if 99 < n {
-        to = put(out, to, b'0' + (n / 100 % 10) as u8);
-    }
-    if 9 < n {
-        to = put(out, to, b'0' + (n / 10 % 10) as u8);
-    }
-    put(out, to, b'0' + (n % 10) as u8)
-}
-
-// The number of two hex digits, and the place after them. Where they are not, the place is not moved.
-fn hex(s: &[u8], at: usize) -> Small {
-    if at < s.len() {
-        if 2 <= s.len() - at {
-            let end = at + 2;
-            let n = cases::small_number(&s[at..end], 0, true);
-            if n.at == 2 {
-                return Small {
-                    value: n.value,
-                    at: end,
-                };
-            }
+impl Made {
+    pub fn new() -> Made {
+        Made {
+            list: [0; ROOM],
+            len: 0,
         }
     }
-    Small { value: 0, at: at }
-}
 
-// The byte that a letter stands for after a backslash, or 0.
-fn escaped(c: u8) -> u8 {
-    match c {
-        b'n' => b'\n',
-        b't' => b'\t',
-        b'r' => b'\r',
-        b'\\' => b'\\',
-        _ => 0,
+    pub fn bytes(&self) -> &[u8] {
+        &self.list[..self.len]
     }
-}
 
-// What stands after a backslash, whose place is `at`.
-fn escape(s: &[u8], at: usize, count: usize, out: &mut [u8; 16384], many: usize) -> Made {
-    let letter = cases::after(s, at, b'\\');
-    let c = cases::byte(s, letter);
-    let end = cases::after(s, letter, c);
-    if c == b'#' {
-        return Made {
-            many: number(out, many, count),
-            at: end,
-        };
-    }
-    if c == b'x' {
-        let n = hex(s, end);
-        if end < n.at && n.value < 256 {
-            return Made {
-                many: put(out, many, n.value as u8),
-                at: n.at,
-            };
+    // One byte more.
+    fn put(&mut self, c: u8) -> Option<()> {
+        if self.len == ROOM {
+            return None;
         }
+        self.list[self.len] = c;
+        self.len += 1;
+        Some(())
     }
-    let e = escaped(c);
-    if e == 0 {
-        return Made { many: many, at: at };
-    }
-    Made {
-        many: put(out, many, e),
-        at: end,
-    }
-}
 
-// What stands at a place, but for a text that is repeated. What it cannot read it leaves.
-fn piece(s: &[u8], at: usize, count: usize, out: &mut [u8; 16384], many: usize) -> Made {
-    let c = cases::byte(s, at);
-    if c == b'\\' {
-        return escape(s, at, count, out, many);
-    }
-    Made {
-        many: put(out, many, c),
-        at: cases::after(s, at, c),
-    }
-}
-
-// A text that stood there so often before.
-fn text(s: &[u8], count: usize, out: &mut [u8; 16384], many: usize) -> usize {
-    let mut made = Made { many: many, at: 0 };
-    while made.at < s.len() {
-        let next = piece(s, made.at, count, out, made.many);
-        if next.at <= made.at {
-            return 16384;
+    // The last three digits of a number, without zeros in front.
+    fn number(&mut self, n: usize) -> Option<()> {
+        if 99 < n {
+            self.put(b'0' + (n / 100 % 10) as u8)?;
         }
-        made = next;
-    }
-    made.many
-}
-
-// A text so many times.
-fn repeat(s: &[u8], times: usize, out: &mut [u8; 16384], many: usize) -> usize {
-    let mut to = many;
-    let mut count: usize = 0;
-    while count < times {
-        if 16384 <= to {
-            return 16384;
+        if 9 < n {
+            self.put(b'0' + (n / 10 % 10) as u8)?;
         }
-        to = text(s, count, out, to);
-        count += 1;
+        self.put(b'0' + (n % 10) as u8)
     }
-    to
 }
 
-// What stands between braces, from the place after the open one on; `at` is the place of the backslash.
-fn braces(s: &[u8], open: usize, at: usize, out: &mut [u8; 16384], many: usize) -> Made {
-    let n = cases::small_number(s, open, false);
-    let start = cases::after(s, n.at, b':');
-    if start == n.at || s.len() < start {
-        return Made { many: many, at: at };
+// The byte of two hex digits.
+fn hex(line: &mut Line<'_>) -> Option<u8> {
+    let (two, rest) = line.rest.split_at_checked(2)?;
+    let mut digits = Line { rest: two };
+    let byte = u8::try_from(digits.small(16)?).ok()?;
+    if !digits.rest.is_empty() {
+        return None;
     }
-    let end = cases::find(s, start, b'}');
-    if end == s.len() {
-        return Made { many: many, at: at };
+    line.rest = rest;
+    Some(byte)
+}
+
+// What stands after a backslash.
+fn escape(line: &mut Line<'_>, count: usize, made: &mut Made) -> Option<()> {
+    let (c, rest) = line.rest.split_first()?;
+    line.rest = rest;
+    match *c {
+        b'#' => made.number(count),
+        b'x' => made.put(hex(line)?),
+        b'n' => made.put(b'\n'),
+        b't' => made.put(b'\t'),
+        b'r' => made.put(b'\r'),
+        b'\\' => made.put(b'\\'),
+        _ => None,
     }
-    Made {
-        many: repeat(&s[start..end], n.value as usize, out, many),
-        at: end + 1,
+}
+
+// What stands next, but for a text that is repeated.
+fn piece(line: &mut Line<'_>, count: usize, made: &mut Made) -> Option<()> {
+    if line.skip(b'\\') {
+        return escape(line, count, made);
     }
+    let (c, rest) = line.rest.split_first()?;
+    line.rest = rest;
+    made.put(*c)
+}
+
+// A text that stood there so often before. Each piece of it takes a byte at least.
+fn text(s: &[u8], count: usize, made: &mut Made) -> Option<()> {
+    let mut line = Line { rest: s };
+    for _ in s {
+        if line.rest.is_empty() {
+            break;
+        }
+        piece(&mut line, count, made)?;
+    }
+    Some(())
+}
+
+// A text so many times, from what stands after the open brace on.
+fn braces(line: &mut Line<'_>, made: &mut Made) -> Option<()> {
+    let times = line.small(10).unwrap_or(0);
+    if !line.skip(b':') {
+        return None;
+    }
+    let repeated = line.before(b'}');
+    if !line.skip(b'}') {
+        return None;
+    }
+    for count in 0..times {
+        text(repeated, count as usize, made)?;
+    }
+    Some(())
 }
 
 // The next part of a line.
-fn part(s: &[u8], at: usize, out: &mut [u8; 16384], many: usize) -> Made {
-    let letter = cases::after(s, at, b'\\');
-    let open = cases::after(s, letter, b'{');
-    if at < letter && letter < open {
-        return braces(s, open, at, out, many);
+fn part(line: &mut Line<'_>, made: &mut Made) -> Option<()> {
+    if let Some(rest) = line.rest.strip_prefix(b"\\{") {
+        line.rest = rest;
+        return braces(line, made);
     }
-    piece(s, at, 0, out, many)
+    piece(line, 0, made)
 }
 
-// The bytes that a line spells from a place on, and how many there are.
-pub fn bytes(s: &[u8], from: usize, out: &mut [u8; 16384]) -> usize {
-    let mut made = Made { many: 0, at: from };
-    while made.at < s.len() {
-        let next = part(s, made.at, out, made.many);
-        if next.at <= made.at {
-            return 16384;
+// The bytes that what is left of a line spells. Each part of it takes a byte at least.
+pub fn bytes(line: &mut Line<'_>, made: &mut Made) -> Option<()> {
+    for _ in line.rest {
+        if line.rest.is_empty() {
+            break;
         }
-        made = next;
+        part(line, made)?;
     }
-    made.many
+    Some(())
 }

@@ -1,164 +1,71 @@
 // Runs the call that a line names by its first letter: check, zero, dot, l2, three, eq, order; add, sub, mul
 // and part write to lent lists.
 
-ghost use Rattle.cases.specs.Room.{Inside};
-
-use crate::read::Tail;
 use crate::{read, show};
-use cases::Shape;
-use refusal::Bound;
+use cases::{Line, Shape};
+use refusal::{Merged, Refusal};
 
-// How long a lent list is at most.
+// How many indexes and values a vector has at most, and how long a lent list is at most.
 const ROOM: usize = 48;
 
-// The calls that write to lent lists. Answers whether the letter is one of theirs.
-fn write(
-    call: u8,
-    dims_a: u32,
-    ia: &[u32],
-    va: &[f32],
-    dims_b: u32,
-    ib: &[u32],
-    vb: &[f32],
-    from: Bound,
-    to: Bound,
-    oi: &mut [u32],
-    ov: &mut [f32],
-) -> bool {
-    match call {
-        b'a' => shown::merged(svect::operator_add(dims_a, ia, va, dims_b, ib, vb, oi, ov)),
-        b's' => shown::merged(svect::operator_sub(dims_a, ia, va, dims_b, ib, vb, oi, ov)),
-        b'm' => shown::merged(svect::operator_mul(dims_a, ia, va, dims_b, ib, vb, oi, ov)),
-        b'p' => shown::written(
-            svect::subvector(dims_a, ia, va, from, to, oi, ov),
-            b" entries",
-        ),
-        _ => return false,
-    }
-    true
-}
-
-// Runs a call that writes, and shows what it left in the lent lists.
-fn lend(
-    call: u8,
-    dims_a: u32,
-    ia: &[u32],
-    va: &[f32],
-    dims_b: u32,
-    ib: &[u32],
-    vb: &[f32],
-    rest: Tail,
-) -> bool {
-    let n = rest.indexes;
-    let m = rest.values;
-    if ROOM < n || ROOM < m {
-        return false;
-    }
-    let from = rest.from;
-    let to = rest.to;
-    let mut oi = [cases::DOT_INDEX; 48];
-    let mut ov = [cases::DOT_VALUE; 48];
-    if !write(
-        call,
-        dims_a,
-        ia,
-        va,
-        dims_b,
-        ib,
-        vb,
-        from,
-        to,
-        &mut oi[0..n],
-        &mut ov[0..m],
-    ) {
-        return false;
-    }
-    show::indexes(&oi, n);
-    show::values(&ov, m);
-    true
-}
-
-// Runs a call. Answers whether there is one of this letter.
-fn run(
-    call: u8,
-    dims_a: u32,
-    ia: &[u32],
-    va: &[f32],
-    dims_b: u32,
-    ib: &[u32],
-    vb: &[f32],
-    rest: Tail,
-) -> bool {
-    match call {
-        b'c' => shown::checked(svect::new_checked(dims_a, ia, va)),
-        b'z' => shown::written(svect::zero(dims_a), b" entries"),
-        b'd' => shown::distance(svect::operator_dot(dims_a, ia, va, dims_b, ib, vb)),
-        b'l' => shown::distance(svect::operator_l2(dims_a, ia, va, dims_b, ib, vb)),
-        b't' => show::summed(svect::three_sums(dims_a, ia, va, dims_b, ib, vb)),
-        b'e' => shown::asked(svect::eq(dims_a, ia, va, dims_b, ib, vb)),
-        b'o' => shown::ordering(svect::partial_cmp(dims_a, ia, va, dims_b, ib, vb)),
-        _ => return lend(call, dims_a, ia, va, dims_b, ib, vb, rest),
-    }
-    true
-}
-
-// Runs a call on the entries that a line has, which stand in front of these lists.
-fn entries(
-    call: u8,
-    dims_a: u32,
-    a: Shape,
-    ia: &[u32],
-    va: &[f32],
-    dims_b: u32,
-    b: Shape,
-    ib: &[u32],
-    vb: &[f32],
-    rest: Tail,
-) -> bool
-    requires { Inside a ia.now va.now × Inside b ib.now vb.now }
+// Lends two lists of so many places, and shows what is left there. Answers whether there are as many.
+fn lend<F: FnOnce(&mut [u32], &mut [f32]) + Drop>(room: Shape, to: F) -> bool
+    requires { F.IsAlwaysCallable to }
 {
-    let na = a.indexes;
-    let ma = a.values;
-    let nb = b.indexes;
-    let mb = b.values;
-    run(
-        call,
-        dims_a,
-        &ia[0..na],
-        &va[0..ma],
-        dims_b,
-        &ib[0..nb],
-        &vb[0..mb],
-        rest,
-    )
+    let mut all_indexes = [cases::DOT_INDEX; ROOM];
+    let mut all_values = [cases::DOT_VALUE; ROOM];
+    let Some(indexes) = all_indexes.get_mut(..room.indexes) else {
+        return false;
+    };
+    let Some(values) = all_values.get_mut(..room.values) else {
+        return false;
+    };
+    to(indexes, values);
+    show::left(indexes, values);
+    true
+}
+
+// Lends two lists to a call that puts two vectors together, and shows what it answered and what it left there.
+fn merge<F: FnOnce(&mut [u32], &mut [f32]) -> Result<Merged, Refusal> + Drop>(
+    room: Shape,
+    call: F,
+) -> bool
+    requires { F.IsAlwaysCallable call }
+{
+    lend(room, |oi, ov| shown::merged(call(oi, ov)))
 }
 
 // Reads what follows a label, and runs the call on it. Answers whether it is a case.
-fn case(s: &[u8], bar: usize, call: u8) -> bool {
-    let dims_a = cases::dims(s, bar);
-    let mut ia = [0u32; 48];
-    let mut va = [0.0f32; 48];
-    let a = cases::vector(s, bar, dims_a, &mut ia, &mut va);
-    let dims_b = cases::dims(s, a.at);
-    let mut ib = [0u32; 48];
-    let mut vb = [0.0f32; 48];
-    let b = cases::vector(s, a.at, dims_b, &mut ib, &mut vb);
-    let rest = read::rest(s, b.at);
-    if rest.at != s.len() {
+fn case(call: u8, mut line: Line<'_>) -> bool {
+    // Entries stand in arrays, as no memory is asked for.
+    let mut indexes_a = [0; ROOM];
+    let mut values_a = [0.0; ROOM];
+    let mut indexes_b = [0; ROOM];
+    let mut values_b = [0.0; ROOM];
+    let a = read::vector(&mut line, &mut indexes_a, &mut values_a);
+    let b = read::vector(&mut line, &mut indexes_b, &mut values_b);
+    let (from, to) = line.bounds();
+    let room = read::lengths(&mut line);
+    if !line.rest.is_empty() {
         return false;
     }
-    entries(
-        call,
-        dims_a.value,
-        a,
-        &ia,
-        &va,
-        dims_b.value,
-        b,
-        &ib,
-        &vb,
-        rest,
-    )
+    match call {
+        b'c' => shown::checked(svect::new_checked(a)),
+        b'z' => shown::written(svect::zero(a.dims), b" entries"),
+        b'd' => shown::distance(svect::operator_dot(a, b)),
+        b'l' => shown::distance(svect::operator_l2(a, b)),
+        b't' => show::summed(svect::three_sums(a, b)),
+        b'e' => shown::asked(svect::eq(a, b)),
+        b'o' => shown::ordering(svect::partial_cmp(a, b)),
+        b'a' => return merge(room, |oi, ov| svect::operator_add(a, b, oi, ov)),
+        b's' => return merge(room, |oi, ov| svect::operator_sub(a, b, oi, ov)),
+        b'm' => return merge(room, |oi, ov| svect::operator_mul(a, b, oi, ov)),
+        b'p' => return lend(room, |oi, ov| {
+            shown::written(svect::subvector(a, from, to, oi, ov), b" entries");
+        }),
+        _ => return false,
+    }
+    true
 }
 
 // Runs one line. Answers whether it is a case.
@@ -166,5 +73,7 @@ pub fn line(s: &[u8]) -> bool {
     if cases::comment(s) {
         return true;
     }
-    cases::ended(case(s, cases::label(s), cases::byte(s, 0)))
+    let mut line = Line { rest: s };
+    line.label();
+    cases::ended(case(cases::byte(s, 0), line))
 }

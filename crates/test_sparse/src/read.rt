@@ -1,35 +1,43 @@
-// Reads what follows the vectors.
+// Reads the parts of a line.
 
-use cases::bounds;
-use refusal::Bound;
+use cases::{Line, Shape};
+use sparse::SVectBorrowed;
 
-// What follows the vectors: the ends of a slice and the lengths of the lent lists, and the place after them.
-#[derive(Drop)]
-pub struct Tail {
-    pub from: Bound,
-    pub to: Bound,
-    pub indexes: usize,
-    pub values: usize,
-    pub at: usize,
+// A vector, whose entries go to the front of the two lists. Of one that is not there the dims are 0.
+pub fn vector<'a>(
+    line: &mut Line<'_>,
+    indexes: &'a mut [u32],
+    values: &'a mut [f32],
+) -> SVectBorrowed<'a> {
+    let (dims, shape) = line.vector(indexes, values);
+    SVectBorrowed {
+        dims,
+        indexes: &indexes[..shape.indexes],
+        values: &values[..shape.values],
+    }
 }
 
-// Two bounds, and two lengths in brackets. Lengths that are not there are 0.
-pub fn rest(s: &[u8], start: usize) -> Tail {
-    let ends = bounds::two(s, start);
-    let lower = ends.from;
-    let upper = ends.to;
-    let open = cases::next(s, ends.at);
-    let indexes = cases::small_number(s, cases::after(s, open, b'['), false);
-    let values = cases::small_number(s, cases::after(s, indexes.at, b' '), false);
-    let mut at = ends.at;
-    if cases::byte(s, open) == b'[' && cases::byte(s, values.at) == b']' {
-        at = cases::after(s, values.at, b']');
+// The lengths of the two lent lists, in brackets. Lengths that are not there are 0.
+pub fn lengths(line: &mut Line<'_>) -> Shape {
+    lengths_there(line).unwrap_or(Shape {
+        indexes: 0,
+        values: 0,
+    })
+}
+
+// The lengths, if they are there. A number that is not there is 0.
+fn lengths_there(line: &mut Line<'_>) -> Option<Shape> {
+    let mut after = *line;
+    after.next_part();
+    if !after.skip(b'[') {
+        return None;
     }
-    Tail {
-        from: lower,
-        to: upper,
-        indexes: indexes.value as usize,
-        values: values.value as usize,
-        at: at,
+    let indexes = after.small(10).unwrap_or(0) as usize;
+    after.skip(b' ');
+    let values = after.small(10).unwrap_or(0) as usize;
+    if !after.skip(b']') {
+        return None;
     }
+    *line = after;
+    Some(Shape { indexes, values })
 }

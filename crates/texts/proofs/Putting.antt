@@ -1,19 +1,16 @@
 -- Texts that are written one after the other are one text. Assumes nothing.
-use Prim.Native.Nat.{ℕ, ◌+◌, ◌≤◌, ◌<◌}
+use Prim.Native.Nat.{ℕ, ◌+◌, ◌≤◌}
 use native.Mathlib.Omega.{arith}
-use native.Mathlib.Numerals.{add-one}
-use mathlib.Core.List.{List, [], ◌∷◌, ◌++◌, append_assoc}
+use mathlib.Core.List.{List, [], ◌++◌, append_assoc}
 use mathlib.Core.Path.{◌≡◌, refl, sym, ap, ◌∙◌}
-use lib.ListN.{length, get_or, take, drop, set, length-append, length-drop, take-append-drop}
-use lib.Seq.{set_split, length-take-le, take-suc, take_at, drop-append-add, drop-drop}
+use lib.ListN.{length, take, drop, length-append, length-drop, take-append-drop}
+use lib.Seq.{length-take-le, take_at, drop-append-add, drop-drop}
+use Rattle.texts.specs.Lines.{Adds}
 use Rattle.texts.specs.Puts.{Puts}
+use Rattle.texts.specs.declared.Line.{Line}
 
 pub puts_none : (at : ℕ) (o : List ℕ) → Puts [] at o at o
 puts_none at o = record { after = omega arith; text = sym (take-append-drop at o) }
-
-pub puts_one : (c at : ℕ) (o : List ℕ) → at < length o → Puts (c ∷ []) at o (at + 1) (set o at c)
-puts_one c at o h =
-    record { after = refl; text = set_split o at c h ∙ ap (λ (n : ℕ). take at o ++ c ∷ drop n o) (sym (add-one at)) }
 
 module _ {s t : List ℕ} {at r r₂ : ℕ} {o o₁ o₂ : List ℕ} where
   pub puts_both : at ≤ length o → Puts s at o r o₁ → Puts t r o₁ r₂ o₂ → Puts (s ++ t) at o r₂ o₂
@@ -62,6 +59,14 @@ one_puts {t} {o} {at = at} p q =
     let same = p.after ∙ sym q.after in
     (same, p.text ∙ ap (λ (n : ℕ). take at o ++ (t ++ drop n o)) same ∙ sym q.text)
 
--- one element more of a list
-pub taken_more : (s : List ℕ) (i : ℕ) → i < length s → take i s ++ (get_or s i 0 ∷ []) ≡ take (i + 1) s
-taken_more s i h = sym (take-suc s i 0 h) ∙ ap (λ (n : ℕ). take n s) (sym (add-one i))
+-- ---- a line that is being written
+
+pub adds_none : (l : Line) → Adds [] l l
+adds_none l = record { same = refl; puts = puts_none l.at l.out.now }
+
+pub adds_both : {s t : List ℕ} {a b c : Line} → a.at ≤ length a.out.now → Adds s a b → Adds t b c → Adds (s ++ t) a c
+adds_both within p q = record { same = q.same ∙ p.same; puts = puts_both within p.puts q.puts }
+
+-- the room that is left after a text of at most k bytes
+pub adds_room : {t : List ℕ} {a b : Line} (k n : ℕ) → Adds t a b → length t ≤ k → a.at + (k + n) ≤ length a.out.now → b.at + n ≤ length b.out.now
+adds_room k n p short room = room_after k n p.puts short room

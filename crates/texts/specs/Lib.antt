@@ -1,3 +1,4 @@
 -- The definitions that the contracts of `texts` cite.
 pub mod Texts
 pub mod Puts
+pub mod Lines

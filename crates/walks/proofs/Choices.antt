@@ -1,16 +1,8 @@
 -- Which of two indexes is smaller, as numbers that are added to a place. Assumes nothing.
-use Prim.Native.Nat.{ℕ, ◌+◌, ◌*◌, ◌≤◌, ◌<◌}
-use native.Mathlib.Nat.{eq-or-lt_of_le}
-use native.Mathlib.Omega.{arith}
-use mathlib.Core.Bool.{Bool, true, false, cond}
-use mathlib.Core.List.{[], ◌∷◌}
-use mathlib.Core.Logic.{⊎_elim}
-use mathlib.Core.Path.{◌≡◌, refl}
+use Rattle.std.proofs.Common.{ℕ, ◌+◌, ◌*◌, ◌≤◌, ◌<◌, eq-or-lt_of_le, arith, Bool, true, false, cond, [], ◌∷◌, ⊎_elim, ◌≡◌, refl, ltb, leb, eqb, get_or, Float, lt-ltb, le-ltb, le-leb, eq-eqb, ne_eqb}
 use mir.Val.{bool_byte}
-use lib.Dec.{ltb, leb, eqb}
-use lib.ListN.{get_or}
-use lib.Ieee.{Float, nan}
-use borrow.Author.Tests.{lt-ltb, le-ltb, le-leb, lt-leb, eq-eqb, ne_eqb}
+use lib.Ieee.{nan}
+use borrow.Author.Tests.{lt-leb}
 use Rattle.places.proofs.Below.{le_or_lt}
 
 pub byte_most : (b : Bool) → bool_byte b ≤ 1

@@ -1,12 +1,5 @@
 -- A search for a place in rising indexes that halves the range in which it can be. Assumes nothing.
-use Prim.Native.Nat.{ℕ, ◌+◌, ◌-◌, ◌≤◌, ◌<◌}
-use native.Mathlib.Nat.{eq-or-lt_of_le}
-use native.Mathlib.Omega.{arith}
-use mathlib.Core.List.{List}
-use mathlib.Core.Logic.{⊎_elim}
-use mathlib.Core.Path.{◌≡◌, ◌∙◌}
-use lib.ListN.{length, get_or, take, drop, length-take, length-drop}
-use lib.Seq.{get_or-take, get_or-drop}
+use Rattle.std.proofs.Common.{ℕ, ◌+◌, ◌-◌, ◌≤◌, ◌<◌, eq-or-lt_of_le, arith, List, ⊎_elim, ◌≡◌, ◌∙◌, length, get_or, take, drop, length-take, length-drop, get_or-take, get_or-drop}
 use Rattle.places.proofs.Below.{le_or_lt}
 use Rattle.sparse.specs.Sound.{Rising, Split}
 

@@ -1,12 +1,6 @@
 -- A loop that writes the full places below n in rising order, one store after the other. Assumes nothing.
-use Prim.Native.Nat.{ℕ, suc, ◌+◌, ◌≤◌, ◌<◌}
-use native.Mathlib.Numerals.{add-one}
-use native.Mathlib.Omega.{arith}
-use mathlib.Core.List.{List, [], ◌∷◌, ◌++◌, append_assoc, append-nil}
-use mathlib.Core.Path.{◌≡◌, refl, ap, ◌∙◌}
-use lib.ListN.{length, get_or, set, drop, length-append, length-drop}
-use lib.Seq.{drop-cons, set_at}
-use lib.Ieee.{Float}
+use Rattle.std.proofs.Common.{ℕ, suc, ◌+◌, ◌≤◌, ◌<◌, add-one, arith, List, [], ◌∷◌, ◌++◌, append_assoc, append-nil, ◌≡◌, refl, ap, ◌∙◌, length, get_or, set, drop, length-append, length-drop, drop-cons, Float}
+use lib.Seq.{set_at}
 use Rattle.sparse.specs.Cells.{index_of, value_of, indexes_below, values_below}
 use Rattle.sparse.specs.declared.Cell.{Cell}
 use Rattle.sparse.specs.declared.Cell.TheVariants.{Empty, Full}

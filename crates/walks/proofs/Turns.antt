@@ -1,11 +1,6 @@
 -- The three turns of a walk: to a place that only the left vector has, only the right one, or both. Assumes nothing.
-use Prim.Native.Nat.{ℕ, ◌+◌, ◌<◌}
-use native.Mathlib.Omega.{arith}
-use mathlib.Core.List.{List}
-use mathlib.Core.Logic.{inl, inr}
-use mathlib.Core.Path.{◌≡◌, refl}
-use lib.ListN.{length, get_or}
-use lib.Ieee.{Float, nan}
+use Rattle.std.proofs.Common.{ℕ, ◌+◌, ◌<◌, arith, List, inl, inr, ◌≡◌, refl, length, get_or, Float}
+use lib.Ieee.{nan}
 use Rattle.sparse.specs.declared.Cell.TheVariants.{Empty, Full}
 use Rattle.walks.specs.Walk.{turn, Turned}
 

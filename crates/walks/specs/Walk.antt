@@ -3,7 +3,9 @@ use Rattle.std.specs.Prelude.{ℕ, ◌+◌, ◌≤◌, ◌<◌, List, ◌⊎◌,
 use Rattle.std.specs.Float.{nan}
 use Rattle.sparse.specs.declared.Cell.{Cell}
 use Rattle.sparse.specs.declared.Cell.TheVariants.{Empty, Full}
+use Rattle.sparse.specs.declared.SVectBorrowed.{SVectBorrowed}
 use Rattle.walks.specs.declared.Turn.{Turn}
+use Rattle.walks.specs.declared.Walk.{Walk}
 
 -- ---- one turn
 
@@ -32,6 +34,31 @@ pub record Turned (is : List ℕ) (vs : List Float) (p : ℕ) (js : List ℕ) (w
   pub left : Taken is vs p t.place t.x t.p
   pub right : Taken js ws q t.place t.y t.q
   pub some : p + q < t.p + t.q
+
+-- ---- a walk as one value
+
+abbrev pub walk : SVectBorrowed → ℕ → SVectBorrowed → ℕ → Walk
+walk a p b q = record { a = a; p = p; b = b; q = q }
+
+-- both sides have an entry left, or one of them at least
+abbrev pub Both : Walk → Type 0
+Both w = (w.p < length w.a.indexes.now) × (w.q < length w.b.indexes.now)
+
+abbrev pub Any : Walk → Type 0
+Any w = (w.p < length w.a.indexes.now) ⊎ (w.q < length w.b.indexes.now)
+
+abbrev pub Stands : Walk → Type 0
+Stands w = Standing w.a.indexes.now w.a.values.now w.p w.b.indexes.now w.b.values.now w.q
+
+abbrev pub Turns : Walk → Turn → Type 0
+Turns w t = Turned w.a.indexes.now w.a.values.now w.p w.b.indexes.now w.b.values.now w.q t
+
+-- the turns to a place that only the left vector has, and only the right one
+abbrev pub left_turn : Walk → Turn
+left_turn w = turn (get_or w.a.indexes.now w.p 0) (Full (get_or w.a.values.now w.p nan)) Empty (w.p + 1) w.q
+
+abbrev pub right_turn : Walk → Turn
+right_turn w = turn (get_or w.b.indexes.now w.q 0) Empty (Full (get_or w.b.values.now w.q nan)) w.p (w.q + 1)
 
 -- ---- one store
 

@@ -2,17 +2,17 @@
 
 #![tactic(auto)]
 
-ghost use Rattle.std.specs.Prelude.{◌≡◌, ◌+◌, ◌≤◌, ◌<◌, min, cond, ltb, eqb, length, get_or};
+ghost use Rattle.std.specs.Prelude.{◌≡◌, ◌+◌, ◌≤◌, ◌<◌, ◌↔◌, IsTrue, min, cond, ltb, eqb, length, get_or};
 ghost use Rattle.std.specs.Float.{nan};
 ghost use Rattle.sparse.specs.Cells.{keep};
 ghost use Rattle.sparse.specs.Sound.{Rising, Split};
 ghost use Rattle.sparse.specs.declared.Cell.TheVariants.{Empty, Full};
-ghost use Rattle.walks.specs.Walk.{turn, Standing, Turned, Put};
+ghost use Rattle.walks.specs.Walk.{walk, left_turn, right_turn, Both, Any, Stands, Turns, Put};
 
-use sparse::Cell;
+use sparse::{Cell, SVectBorrowed};
 
 // One turn of a walk over two vectors: the next place, what each holds there, and their next entries.
-#[derive(Drop)]
+#[derive(Clone, Copy)]
 pub struct Turn {
     pub place: u32,
     pub x: Cell,
@@ -21,67 +21,97 @@ pub struct Turn {
     pub q: usize,
 }
 
-// The turn to a place that only the left vector has, only the right one, or both.
-fn left_turn(place: u32, v: f32, p: usize, q: usize) -> Turn
-    requires { p < 1048575 }
-    ensures { result ≡ turn place (Full v) Empty (p + 1) q }
-{
-    Turn {
-        place: place,
-        x: Cell::Full(v),
-        y: Cell::Empty,
-        p: p + 1,
-        q: q,
-    }
+// A walk over two sparse vectors that has come to the entry p of the left one and to the entry q of the right one. For
+// the loops of the crates above, not for users.
+#[derive(Clone, Copy)]
+pub struct Walk<'a> {
+    pub a: SVectBorrowed<'a>,
+    pub p: usize,
+    pub b: SVectBorrowed<'a>,
+    pub q: usize,
 }
 
-fn right_turn(place: u32, w: f32, p: usize, q: usize) -> Turn
-    requires { q < 1048575 }
-    ensures { result ≡ turn place Empty (Full w) p (q + 1) }
-{
-    Turn {
-        place: place,
-        x: Cell::Empty,
-        y: Cell::Full(w),
-        p: p,
-        q: q + 1,
+impl<'a> Walk<'a> {
+    // A walk that has passed no entry.
+    pub fn start(a: SVectBorrowed<'a>, b: SVectBorrowed<'a>) -> Walk<'a>
+        ensures { result ≡ walk a.entry 0 b.entry 0 }
+    {
+        Walk { a, p: 0, b, q: 0 }
     }
-}
 
-fn both_turn(place: u32, v: f32, w: f32, p: usize, q: usize) -> Turn
-    requires { (p < 1048575) × (q < 1048575) }
-    ensures { result ≡ turn place (Full v) (Full w) (p + 1) (q + 1) }
-{
-    Turn {
-        place: place,
-        x: Cell::Full(v),
-        y: Cell::Full(w),
-        p: p + 1,
-        q: q + 1,
+    // Whether both sides have an entry left, or one of them at least.
+    pub fn has_both(self) -> bool
+        ensures { IsTrue result ↔ Both self.entry }
+    {
+        self.p < self.a.indexes.len() && self.q < self.b.indexes.len()
     }
-}
 
-// The next turn of a walk that has come to the entries p and q and has one left. For the loops of the
-// crates above, not for users.
-pub fn one_turn(ia: &[u32], va: &[f32], p: usize, ib: &[u32], vb: &[f32], q: usize) -> Turn
-    requires { Standing ia.now va.now p ib.now vb.now q }
-    ensures { Turned ia.now va.now p ib.now vb.now q result }
-{
-    if ia.len() <= p {
-        return right_turn(ib[q], vb[q], p, q);
+    pub fn has_any(self) -> bool
+        ensures { IsTrue result ↔ Any self.entry }
+    {
+        self.p < self.a.indexes.len() || self.q < self.b.indexes.len()
     }
-    let i = ia[p];
-    if ib.len() <= q {
-        return left_turn(i, va[p], p, q);
+
+    // The turns to a place that only the left vector has, or only the right one. One function for both would have to be told
+    // which side it is, and would be no plainer.
+    fn left_turn(self) -> Turn
+        requires { (self.p < length self.a.indexes.now) × (self.p < length self.a.values.now) }
+        ensures { result ≡ left_turn self.entry }
+    {
+        let Walk { a, p, q, .. } = self;
+        let x = Cell::Full(a.values[p]);
+        Turn {
+            place: a.indexes[p],
+            x,
+            y: Cell::Empty,
+            p: p + 1,
+            q,
+        }
     }
-    let j = ib[q];
-    if i < j {
-        return left_turn(i, va[p], p, q);
+
+    fn right_turn(self) -> Turn
+        requires { (self.q < length self.b.indexes.now) × (self.q < length self.b.values.now) }
+        ensures { result ≡ right_turn self.entry }
+    {
+        let Walk { p, b, q, .. } = self;
+        let y = Cell::Full(b.values[q]);
+        Turn {
+            place: b.indexes[q],
+            x: Cell::Empty,
+            y,
+            p,
+            q: q + 1,
+        }
     }
-    if j < i {
-        return right_turn(j, vb[q], p, q);
+
+    // The next turn of a walk that has an entry left.
+    pub fn turn(self) -> Turn
+        requires { Stands self }
+        ensures { Turns self.entry result }
+    {
+        let Walk { a, p, b, q } = self;
+        if a.indexes.len() <= p {
+            return self.right_turn();
+        }
+        if b.indexes.len() <= q {
+            return self.left_turn();
+        }
+        let i = a.indexes[p];
+        let j = b.indexes[q];
+        if i < j {
+            return self.left_turn();
+        }
+        if j < i {
+            return self.right_turn();
+        }
+        Turn {
+            place: i,
+            x: Cell::Full(a.values[p]),
+            y: Cell::Full(b.values[q]),
+            p: p + 1,
+            q: q + 1,
+        }
     }
-    both_turn(i, va[p], vb[q], p, q)
 }
 
 // Nothing for a zero of either sign, and else the value.
@@ -92,7 +122,8 @@ pub fn kept(v: f32) -> Cell
 }
 
 // Stores what stands at a place as the entry n, if it is full, and returns the next entry. For the
-// loops of the crates above, not for users.
+// loops of the crates above, not for users. The lists and n stay three parameters: of a struct that holds them, each
+// contract and each invariant would have to say that it still holds the same two references.
 pub fn put(oi: &mut [u32], ov: &mut [f32], n: usize, place: u32, z: Cell) -> usize
     requires { (n < length oi.old) × (n < length ov.old) }
     ensures { Put z place n oi.old ov.old result oi.new ov.new }
@@ -110,21 +141,11 @@ pub fn partition_point(indexes: &[u32], place: u32) -> usize
     requires { Rising indexes.now }
     ensures { Split indexes.now result place }
 {
-    let mut low: usize = 0;
-    let mut high: usize = indexes.len();
-    while low < high {
-        let middle = low + (high - low) / 2;
-        if indexes[middle] < place {
-            low = middle + 1;
-        } else {
-            high = middle;
-        }
-    }
-    low
+    indexes.partition_point(|i| *i < place)
 }
 
-// The same, found in doubling steps first and then by halving, so that a near place is found soon. For the crates
-// above, not for users.
+// The same, found in doubling steps first and then by halving, so that a near place is found soon. The library has no
+// such search. For the crates above, not for users.
 pub fn near_point(indexes: &[u32], place: u32) -> usize
     requires { Rising indexes.now }
     ensures { Split indexes.now result place }
@@ -139,14 +160,7 @@ pub fn near_point(indexes: &[u32], place: u32) -> usize
         low += step;
         step += step;
     }
-    low + partition_point(&indexes[low..indexes.len()], place)
-}
-
-// The smaller of two indexes.
-pub fn lower(i: u32, j: u32) -> u32
-    ensures { result ≡ cond (ltb i j) i j }
-{
-    if i < j { i } else { j }
+    low + partition_point(&indexes[low..], place)
 }
 
 // The value at the smaller of two indexes: x or y, or s where both are the same. It is read at one of four places: a
@@ -183,10 +197,7 @@ pub fn way_on(turns: usize, left: usize, right: usize) -> Way
     requires { (turns ≤ 2097150) × (left ≤ 1048575) × (right ≤ 1048575) }
 {
     let few = turns / 5;
-    if left < few {
-        return Way::Plain;
-    }
-    if right < few {
+    if left < few || right < few {
         return Way::Plain;
     }
     if left + right < turns + turns / 8 * 5 {
@@ -195,20 +206,20 @@ pub fn way_on(turns: usize, left: usize, right: usize) -> Way
     Way::Meeting
 }
 
-// The smaller of two lengths.
+// The smaller of two lengths: the library's `min`. No crate here calls it; it is a call that docs/PROMISES.md names.
 pub fn smaller(a: usize, b: usize) -> usize
     ensures { result ≡ min a b }
 {
-    if a <= b { a } else { b }
+    a.min(b)
 }
 
 // How many turns are taken by one way before it is looked how to go on, where the sides have so many entries left.
 pub fn run_length(way: Way, left: usize, right: usize) -> usize
     ensures { (result ≤ left) × (result ≤ right) × (0 < left → 0 < right → 0 < result) }
 {
-    let rest = smaller(left, right);
-    if let Way::Plain = way {
-        return smaller(256, rest);
-    }
-    smaller(64, rest)
+    let most = match way {
+        Way::Plain => 256,
+        Way::Quick | Way::Meeting => 64,
+    };
+    left.min(right).min(most)
 }

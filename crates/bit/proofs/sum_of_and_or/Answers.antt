@@ -1,25 +1,21 @@
 -- `bit::sum_of_and_or` meets its contract, as `sum_of` does, for both counts. Assumes nothing.
-use mathlib.Core.Path.{◌≡◌, sym, ◌∙◌}
-use Rattle.refusal.specs.declared.Checked.TheVariants.{Valid}
+use Rattle.std.proofs.Common.{◌≡◌, Ok, sym, ap, ap₂, ◌∙◌}
+use Rattle.refusal.specs.Answers.{Valid}
+use Rattle.refusal.proofs.Told.{checked_told}
+use Rattle.bits.specs.Vectors.{seen}
 use Rattle.bits.specs.Calls.{pair_of}
-use Rattle.bits.proofs.Pairs.{Pair, pair_sound, alike}
+use Rattle.bits.proofs.Pairs.{pair_sound, alike}
 use Rattle.bit_words.specs.declared.Op.TheVariants.{And, Or}
+use Rattle.bit.specs.Calls.{two}
 use Rattle.bit.proofs.Pairs.{ones_dims}
 use Rattle.bit.proofs.Counted.{counts_answer}
 use Rattle.bit.proofs.sum_of_and_or.Goals as goal
-use Rattle.bit.proofs.sum_of_and_or.Goals.{In_default}
 
--- the vectors passed their tests
-passed : (c : In_default) → let a = c.args in pair_of a.dims_a a.a.now a.dims_b a.b.now ≡ Valid
-passed c = sym c.check_pair.ensures.answer ∙ c.in_default.is
-
-pair : (c : In_default) → let a = c.args in Pair a.dims_a a.a.now a.dims_b a.b.now
-pair c = pair_sound _ _ _ _ (passed c)
-
-pub ones_of_both-two-requires : goal.ones_of_both-two-requires
-ones_of_both-two-requires c = alike (pair c)
+pub ones_of_both-requires : goal.ones_of_both-requires
+ones_of_both-requires c = alike (pair_sound _ _ (sym (checked_told c.in_ok-check_pair.ensures)))
 
 pub returns : goal.returns
-returns c = let p = pair (goal.at.returns c).In_default in
-    let n = c.ones_of_both-two.ensures in
-    counts_answer _ _ (rw (passed (goal.at.returns c).In_default, n.0, n.1, ones_dims And p, ones_dims Or p))
+returns c = let passed : pair_of (seen c.args.a) (seen c.args.b) ≡ Valid = sym (checked_told c.in_ok-check_pair.ensures) in
+    let p = pair_sound _ _ passed in
+    let n = c.ones_of_both.ensures in
+    counts_answer _ _ (rw passed (ap Ok (ap₂ two (n.0 ∙ ones_dims And p) (n.1 ∙ ones_dims Or p))))

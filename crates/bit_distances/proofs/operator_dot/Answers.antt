@@ -4,4 +4,4 @@ use Rattle.bit_distances.proofs.Counts.{counted_float}
 use Rattle.bit_distances.proofs.operator_dot.Goals as goal
 
 pub int_to_float-result : goal.int_to_float-result
-int_to_float-result c = counted_float _ _ _ _ And c.sum_of_and.ensures c.in-Ones.is
+int_to_float-result c = counted_float _ _ And c.in_ok-n.ensures

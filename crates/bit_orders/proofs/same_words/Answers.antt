@@ -1,11 +1,8 @@
-use native.Mathlib.Omega.{arith}
-use Rattle.bit_orders.proofs.Orders.{words_same, words_differ}
+-- `bit_orders::same_words` meets its contract: `==` decides whether the lists are the same. Assumes nothing.
+use Rattle.std.proofs.lemmas.Bool.Decides.{Decides-eqb}
+use Rattle.std.proofs.lemmas.Slice.Eq.{slice_eq-Decides}
+use Rattle.bit_orders.proofs.Equality.{same_decided}
 use Rattle.bit_orders.proofs.same_words.Goals as goal
 
-pub returns-then-a-i : goal.returns-then-a-i
-returns-then-a-i c = let a = c.args in
-    rw (words_differ a.a.now a.b.now c.loop-i.i (omega arith) c.if-a-i.true)
-
 pub returns : goal.returns
-returns c = let a = c.args in
-    rw (words_same a.a.now a.b.now (λ j h. c.loop-i.invariant.1 j (omega arith)))
+returns c = same_decided _ _ _ c.requires.long (slice_eq-Decides Decides-eqb _ _ _ c.eq.ensures)

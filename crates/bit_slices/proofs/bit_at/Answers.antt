@@ -1,5 +1,5 @@
 -- `bit_slices::bit_at` meets its contract: the code reads what the definition says. Assumes nothing.
-use mathlib.Core.Path.{refl}
+use Rattle.std.proofs.Common.{refl}
 use Rattle.bits.specs.Bits.{bit_of, bit_at}
 use Rattle.bit_slices.proofs.bit_at.Goals as goal
 

@@ -1,10 +1,7 @@
-use native.Mathlib.Omega.{arith}
-use mathlib.Core.Path.{refl}
-use Rattle.places.proofs.Below.{wrote_none, wrote_more}
+-- `bit_slices::clear` meets its contract: what was filled is n clear words. Assumes nothing.
+use Rattle.bit_slices.proofs.Joins.{cleared}
 use Rattle.bit_slices.proofs.clear.Goals as goal
 
-pub loop-i-init : goal.loop-i-init
-loop-i-init c = (omega arith, wrote_none)
-
-pub loop-i-preserved : goal.loop-i-preserved
-loop-i-preserved c = (omega arith, wrote_more c.loop-i.invariant.1 (omega arith) refl)
+pub returns : goal.returns
+returns c = let a = c.args in
+    rw (cleared a.n a.out.now c.requires (c.fill.ensures.after (λ y e. e)))

@@ -1,7 +1,5 @@
 -- `bit_slices::gather` meets its contract: the bits are in one word or in two neighbours, and those at and above the end are dropped. Assumes nothing.
-use native.Mathlib.Omega.{arith}
-use Prim.Native.Nat.{◌+◌, ◌-◌, ◌*◌, ◌/◌, ◌%◌}
-use mathlib.Core.Path.{◌≡◌}
+use Rattle.std.proofs.Common.{◌≡◌, ◌+◌, ◌-◌, ◌*◌, ◌/◌, ◌%◌, arith}
 use Rattle.bits.specs.Bits.{bit_at}
 use Rattle.bit_slices.proofs.Joins.{upper, below}
 use Rattle.bit_slices.proofs.gather.Goals as goal
@@ -15,6 +13,6 @@ returns-then-k-end c = let a = c.args in
 pub returns : goal.returns
 returns c = let a = c.args in
     let p : 64 * (a.from / 64) + a.from % 64 ≡ a.from = omega arith in
-    let fits = c.shared_slice_known-2-1.given (a.from / 64) in
-    rw (c.lowest-2.ensures, upper a.words.now (a.from / 64) (a.from % 64) (omega arith) (omega (arith, fits)), p)
+    let fits = (c.type_inv.words (a.from / 64)).fits in
+    rw (c.lowest-2.ensures, upper a.words.now (a.from / 64) (a.from % 64) (omega arith) fits, p)
     (below (bit_at a.words.now) a.from (64 - a.from % 64) a.end (omega arith) (omega arith) (omega arith))

@@ -1,7 +1,5 @@
 -- `bit_slices::gather_all` meets its contract: the whole words, and then the last one. Assumes nothing.
-use native.Mathlib.Omega.{arith}
-use Prim.Native.Nat.{◌+◌, ◌-◌}
-use mathlib.Core.Path.{◌≡◌}
+use Rattle.std.proofs.Common.{◌≡◌, ◌+◌, ◌-◌, arith}
 use Rattle.bits.specs.Bits.{bit_at}
 use Rattle.bit_slices.proofs.Joins.{gathered}
 use Rattle.bit_slices.proofs.gather_all.Goals as goal

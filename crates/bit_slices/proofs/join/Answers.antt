@@ -1,5 +1,5 @@
 -- `bit_slices::join` meets its contract: the two shifts come to 64. Assumes nothing.
-use native.Mathlib.Omega.{arith}
+use Rattle.std.proofs.Common.{arith}
 use Rattle.bit_slices.proofs.Joins.{joins}
 use Rattle.bit_slices.proofs.join.Goals as goal
 

@@ -1,5 +1,5 @@
 -- `bit_slices::lowest` meets its contract: what is shifted out at the top is gone. Assumes nothing.
-use native.Mathlib.Omega.{arith}
+use Rattle.std.proofs.Common.{arith}
 use Rattle.bit_slices.proofs.Joins.{shl_shr_low}
 use Rattle.bit_slices.proofs.lowest.Goals as goal
 

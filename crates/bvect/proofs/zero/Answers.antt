@@ -1,21 +1,13 @@
 -- `bvect::zero` meets its contract: clear words are the words of the vector without ones. Assumes nothing.
-use borrow.Author.Tests.{le-ltb}
-use native.Mathlib.Omega.{arith}
-use mathlib.Core.Bool.{false}
-use mathlib.Core.Path.{◌≡◌}
-use lib.ListN.{length}
+use Rattle.std.proofs.Common.{◌≡◌, false, length, arith, le-ltb}
 use Rattle.refusal.proofs.Dims.{some, in_range}
 use Rattle.bits.specs.Bits.{words_for}
 use Rattle.bits.specs.Calls.{bad_dims}
 use Rattle.bvect.proofs.Slices.{none_writes}
 use Rattle.bvect.proofs.zero.Goals as goal
-use Rattle.bvect.proofs.zero.Goals.{Else-dims-gt65535}
-
--- dims passed
-good : (c : Else-dims-gt65535) → bad_dims c.args.dims ≡ false
-good c = in_range 65535 c.args.dims (some _ c.if-dims-eq0.false) (omega arith)
 
 pub returns : goal.returns
 returns c = let a = c.args in
+    let good : bad_dims a.dims ≡ false = in_range 65535 a.dims (some _ c.if-dims-eq0.false) (omega arith) in
     let room = le-ltb (length a.out.now) (words_for a.dims) (omega arith) in
-    none_writes _ (rw (good (goal.at.returns c).Else-dims-gt65535, room)) c.words_for-n.ensures c.clear.ensures
+    none_writes _ (rw (good, room)) c.words_for-len.ensures c.clear.ensures

@@ -1,21 +1,6 @@
 -- `folds::three_sums` meets its contract: the tests of two vectors, then the three sums over them. Assumes nothing.
-use mathlib.Core.Path.{◌≡◌, sym, ◌∙◌}
-use Rattle.refusal.specs.declared.Checked.TheVariants.{Valid}
-use Rattle.sparse.specs.Vectors.{Vector, vector}
-use Rattle.sparse.specs.Calls.{pair_of}
-use Rattle.sparse.proofs.Checks.{pair_sound}
+use Rattle.folds.proofs.Answered.{passed}
 use Rattle.folds.proofs.three_sums.Goals as goal
-use Rattle.folds.proofs.three_sums.Goals.{In_default}
 
-abbrev left : In_default → Vector
-left c = let a = c.args in vector a.dims_a a.ia.now a.va.now
-
-abbrev right : In_default → Vector
-right c = let a = c.args in vector a.dims_b a.ib.now a.vb.now
-
--- both vectors passed, and have equal dims
-passed : (c : In_default) → pair_of (left c) (right c) ≡ Valid
-passed c = sym c.check_pair.ensures.answer ∙ c.in_default.is
-
-pub three_of-requires : goal.three_of-requires
-three_of-requires c = let s = pair_sound (left c) (right c) (passed c) in record { left = s.0; right = s.1 }
+pub sum_of-requires : goal.sum_of-requires
+sum_of-requires c = passed c.check_pair.ensures c.in_ok-check_pair.was

@@ -3,5 +3,4 @@ use Rattle.merge_runs.proofs.Loops.{ran_then}
 use Rattle.merge_runs.proofs.any_run.Goals as goal
 
 pub returns-clause-ran : goal.returns-clause-ran
-returns-clause-ran c = let g = c.run-r.ensures in
-    ran_then c.requires c.met_step-s.ensures g
+returns-clause-ran c = ran_then c.requires c.met_step-s.ensures c.run-r.ensures

@@ -8,7 +8,7 @@ pub returns-then-indexes-eq0 : goal.returns-then-indexes-eq0
 returns-then-indexes-eq0 c = λ e. short c.args.indexes.now _ (omega arith)
 
 pub loop-i-preserved : goal.loop-i-preserved
-loop-i-preserved c = risen_more c.loop-i.invariant (omega arith) c.wrapping_sub_u32-all.result c.wrapping_sub_u32-all.type_inv c.wrapping_sub_u32-all.ensures.value
+loop-i-preserved c = risen_more c.loop-i.invariant (omega arith)
 
 pub returns : goal.returns
 returns c = λ e.

@@ -1,25 +1,23 @@
-use native.Mathlib.Omega.{arith}
-use Rattle.sparse.specs.Vectors.{Vector}
-use Rattle.sparse_orders.specs.Loops.{entries}
+use Rattle.std.proofs.Common.{◌∙◌, arith}
+use Rattle.sparse.specs.Vectors.{seen}
 use Rattle.sparse_orders.proofs.Others.{one_more, other_index, other_value, all_same}
 use Rattle.sparse_orders.proofs.first_other.Goals as goal
-use Rattle.sparse_orders.proofs.first_other.Goals.{Start}
+use Rattle.sparse_orders.proofs.first_other.Goals.{then-a-i-via-then-a-i, then-a-i-via-else-a-i+then-a-i-2}
 
-abbrev left : Start → Vector
-left s = entries s.args.ia.now s.args.va.now
-
-abbrev right : Start → Vector
-right s = entries s.args.ib.now s.args.vb.now
-
-pub returns-then-ia-i : goal.returns-then-ia-i
-returns-then-ia-i c = other_index (left (goal.at.returns-then-ia-i c).Start) (right (goal.at.returns-then-ia-i c).Start) _ _ c.loop-i.invariant.1 (omega arith) c.if-ia-i.true
-
-pub returns-then-va-i : goal.returns-then-va-i
-returns-then-va-i c = other_value (left (goal.at.returns-then-va-i c).Start) (right (goal.at.returns-then-va-i c).Start) _ _ c.loop-i.invariant.1 (omega arith) c.if-ia-i.false c.if-va-i.true
+pub returns-then-a-i : goal.returns-then-a-i
+returns-then-a-i c =
+    let n = c.min-n.ensures in
+    let a = seen c.args.a in
+    let b = seen c.args.b in
+    elim c.then-a-i.branch [
+      | then-a-i-via-then-a-i w ↦ other_index a b _ _ c.loop-i.invariant (omega arith) w.if-a-i.true
+      | then-a-i-via-else-a-i+then-a-i-2 w ↦ other_value a b _ _ c.loop-i.invariant (omega arith) w.if-a-i.false w.if-a-i-2.true
+    ]
 
 pub loop-i-preserved : goal.loop-i-preserved
-loop-i-preserved c = (omega arith, one_more (left (goal.at.loop-i-preserved c).Start) (right (goal.at.loop-i-preserved c).Start) _ c.loop-i.invariant.1 c.if-ia-i.false c.if-va-i.false)
+loop-i-preserved c = one_more (seen c.args.a) (seen c.args.b) _ c.loop-i.invariant c.if-a-i.false c.if-a-i-2.false
 
 pub returns : goal.returns
-returns c = let s = (goal.at.returns c).Start in
-    all_same (left s) (right s) _ (λ k h. c.loop-i.invariant.1 k (omega arith))
+returns c =
+    let n = c.min-n.ensures in
+    n ∙ all_same (seen c.args.a) (seen c.args.b) _ (λ k h. c.loop-i.invariant k (omega arith))

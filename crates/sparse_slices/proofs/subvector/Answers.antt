@@ -1,73 +1,56 @@
 -- `sparse_slices::subvector` meets its contract: the entries between the two places that the bounds name are those of the slice. Assumes nothing.
-use Prim.Native.Nat.{◌-◌}
-use mathlib.Core.Path.{◌≡◌, sym, ◌∙◌}
-use borrow.Author.Tests.{lt-ltb, le-ltb}
-use Rattle.refusal.specs.Bounds.{start_of, end_of}
-use Rattle.refusal.specs.declared.Checked.TheVariants.{Valid}
+use Rattle.std.proofs.Common.{◌≡◌, sym, ◌∙◌, arith, ⊎_elim}
+use Rattle.refusal.specs.Answers.{Valid}
 use Rattle.refusal.proofs.Spans.{Part, span_part}
+use Rattle.refusal.proofs.Told.{checked_told}
 use Rattle.sparse.specs.Calls.{checked_of}
-use Rattle.sparse.specs.Vectors.{Vector, vector, size}
+use Rattle.sparse.specs.Vectors.{seen}
 use Rattle.sparse.specs.Sound.{Sound}
 use Rattle.sparse.proofs.Checks.{sound}
-use Rattle.sparse_slices.specs.Calls.{slice}
-use Rattle.sparse_slices.proofs.Cuts.{movable, slice_size, slice_written}
-use Rattle.sparse.proofs.Writes.{refused}
+use Rattle.sparse.proofs.Writes.{refused, room_indexes, room_values, room_enough}
+use Rattle.sparse_slices.proofs.Cuts.{above, slice_size, slice_written}
 use Rattle.sparse_slices.proofs.subvector.Goals as goal
-use Rattle.sparse_slices.proofs.subvector.Goals.{After-partition_point-e, In-Of, In_default}
-
-abbrev given : In_default → Vector
-given c = let a = c.args in vector a.dims a.indexes.now a.values.now
+use Rattle.sparse_slices.proofs.subvector.Goals.{In_ok-check, In_ok-span, After-partition_point-e}
 
 -- the vector passed its tests
-passed : (c : In_default) → checked_of (given c) ≡ Valid
-passed c = sym c.check.ensures.answer ∙ c.in_default.is
+passed : (c : In_ok-check) → checked_of (seen c.args.v) ≡ Valid
+passed c = sym (checked_told c.check.ensures) ∙ c.in_ok-check.was
 
-whole : (c : In_default) → Sound (given c)
-whole c = sound (given c) (passed c)
+whole : (c : In_ok-check) → Sound (seen c.args.v)
+whole c = sound (seen c.args.v) (passed c)
 
 -- the bounds name a part of it
-part : (c : In-Of)
-    → let a = c.args in
-    Part a.from a.to a.dims c.in-Of.start c.in-Of.end
-part c = span_part _ _ _ _ _ (sym c.span_of-span.ensures ∙ c.in-Of.is)
-
--- which has so many entries
-entries : (c : After-partition_point-e)
-    → let t = (goal.at.After-partition_point-e c).In_default in
-    let a = t.args in
-    size (slice (given t) (start_of a.from) (end_of a.dims a.to)) ≡ c.partition_point-e.result - c.partition_point-s.result
-entries c =
-    let u = (goal.at.After-partition_point-e c).In-Of in
-    slice_size _ (whole (goal.at.After-partition_point-e c).In_default) (part u) c.partition_point-s.ensures c.partition_point-e.ensures
+part : (c : In_ok-span) → Part c.args.from c.args.to c.args.v.dims c.in_ok-span.span.start c.in_ok-span.span.end
+part c = span_part _ _ _ _ _ (sym c.span_of.ensures ∙ c.in_ok-span.ensures.ok_part)
 
 pub partition_point-s-requires : goal.partition_point-s-requires
-partition_point-s-requires c = (whole (goal.at.partition_point-s-requires c).In_default).rising
+partition_point-s-requires c = (whole (goal.at.partition_point-s-requires c).In_ok-check).rising
 
 pub partition_point-e-requires : goal.partition_point-e-requires
-partition_point-e-requires c = (whole (goal.at.partition_point-e-requires c).In_default).rising
+partition_point-e-requires c = (whole (goal.at.partition_point-e-requires c).In_ok-check).rising
+
+pub move_indexes-requires-clause-above : goal.move_indexes-requires-clause-above
+move_indexes-requires-clause-above c =
+    let t = goal.at.move_indexes-requires-clause-above c in
+    above _ (whole t.In_ok-check) (part t.In_ok-span) c.partition_point-s.ensures c.partition_point-e.ensures
 
 pub returns-then-oi-n : goal.returns-then-oi-n
-returns-then-oi-n c = let p = (goal.at.returns-then-oi-n c).After-partition_point-e in
-    let u = (goal.at.returns-then-oi-n c).In-Of in
-    let t = (goal.at.returns-then-oi-n c).In_default in
-    refused _ (rw (passed t, (part u).fair, entries p, lt-ltb _ _ c.if-oi-n.true))
+returns-then-oi-n c =
+    let t = goal.at.returns-then-oi-n c in
+    let p = part t.In_ok-span in
+    let size = slice_size _ (whole t.In_ok-check) p c.partition_point-s.ensures c.partition_point-e.ensures in
+    refused _ (rw (passed t.In_ok-check, p.fair, size) (⊎_elim (room_indexes _ _ _) (λ g. room_values _ _ _ g.1) c.then-oi-n.either))
 
-pub returns-then-ov-n : goal.returns-then-ov-n
-returns-then-ov-n c = let p = (goal.at.returns-then-ov-n c).After-partition_point-e in
-    let u = (goal.at.returns-then-ov-n c).In-Of in
-    let t = (goal.at.returns-then-ov-n c).In_default in
-    refused _ (rw (passed t, (part u).fair, entries p, le-ltb _ _ c.if-oi-n.false, lt-ltb _ _ c.if-ov-n.true))
-
-pub move_part-requires : goal.move_part-requires
-move_part-requires c = let u = (goal.at.move_part-requires c).In-Of in
-    movable _ (whole (goal.at.move_part-requires c).In_default) (part u) c.partition_point-s.ensures c.partition_point-e.ensures
-    c.if-oi-n.false
-    c.if-ov-n.false
+pub slice_bounds-copy_from_slice-end-3 : goal.slice_bounds-copy_from_slice-end-3
+slice_bounds-copy_from_slice-end-3 c = omega (arith, (whole (goal.at.slice_bounds-copy_from_slice-end-3 c).In_ok-check).even)
 
 pub returns : goal.returns
-returns c = let p = (goal.at.returns c).After-partition_point-e in
-    let u = (goal.at.returns c).In-Of in
-    let t = (goal.at.returns c).In_default in
-    slice_written _ (whole t) (part u) p.partition_point-s.ensures p.partition_point-e.ensures
-    (rw (passed t, (part u).fair, entries p, le-ltb _ _ c.if-oi-n.false, le-ltb _ _ c.if-ov-n.false))
-    c.move_part.ensures
+returns c =
+    let t = goal.at.returns c in
+    let p = part t.In_ok-span in
+    let s = whole t.In_ok-check in
+    let size = slice_size _ s p c.partition_point-s.ensures c.partition_point-e.ensures in
+    slice_written _ s p c.partition_point-s.ensures c.partition_point-e.ensures
+    (rw (passed t.In_ok-check, p.fair, size) (room_enough _ _ _ c.if-oi-n.false c.if-ov-n.false))
+    c.move_indexes.ensures
+    c.copy_from_slice.ensures.after

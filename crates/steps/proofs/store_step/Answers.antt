@@ -3,4 +3,4 @@ use Rattle.steps.proofs.Turning.{stored}
 use Rattle.steps.proofs.store_step.Goals as goal
 
 pub returns : goal.returns
-returns c = rw (c.lower.ensures, c.value_at.ensures, c.met-s.ensures, c.alone-w.ensures) (stored c.requires.steady c.args.negate c.requires.stores)
+returns c = rw (c.min.ensures, c.value_at.ensures, c.met-s.ensures, c.alone.ensures) (stored c.requires.steady c.args.sign c.requires.stores)

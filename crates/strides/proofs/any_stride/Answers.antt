@@ -2,5 +2,5 @@
 use Rattle.strides.proofs.Copies.{copied_turns}
 use Rattle.strides.proofs.any_stride.Goals as goal
 
-pub returns-then-long : goal.returns-then-long
-returns-then-long c = copied_turns c.requires.clear c.copy_before-k.ensures c.args.vb.now c.requires.q_in_bounds.0
+pub returns-then-left-eq0 : goal.returns-then-left-eq0
+returns-then-left-eq0 c = copied_turns c.requires.clear c.copy_before-k.ensures c.args.row.values.now c.requires.within.0

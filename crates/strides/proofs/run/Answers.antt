@@ -1,8 +1,8 @@
 use Rattle.strides.proofs.Chains.{runs_start, runs_more}
 use Rattle.strides.proofs.run.Goals as goal
 
-pub loop-taken-init : goal.loop-taken-init
-loop-taken-init c = runs_start
+pub loop-turns-init : goal.loop-turns-init
+loop-turns-init c = runs_start
 
-pub loop-taken-preserved : goal.loop-taken-preserved
-loop-taken-preserved c = runs_more c.loop-taken.invariant c.store_step-t.ensures
+pub loop-turns-preserved : goal.loop-turns-preserved
+loop-turns-preserved c = runs_more c.loop-turns.invariant c.store_step-step.ensures

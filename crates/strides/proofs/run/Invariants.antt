@@ -1,11 +1,6 @@
--- `strides::run` meets its contract. The loop's invariant: so many turns lead from where it began to where it is (`Runs`). The measure is how
--- many are left. Assumes nothing.
-use Prim.Native.Nat.{◌-◌}
+-- `strides::run` meets its contract. The loop's invariant: so many turns lead from where it began to where it is (`Runs`). Assumes nothing.
 use Rattle.strides.proofs.Chains.{Runs}
 use Rattle.strides.proofs.run.Given as goal
 
-abbrev pub invariant-loop-taken : goal.invariant-loop-taken
-invariant-loop-taken l = Runs l.initial.si l.initial.sv l.at l.cap l.n l.ib l.vb l.q l.si l.sv l.u l.v l.m l.taken
-
-abbrev pub decreases-loop-taken : goal.decreases-loop-taken
-decreases-loop-taken l = l.k - l.taken
+abbrev pub invariant-loop-turns : goal.invariant-loop-turns
+invariant-loop-turns l = Runs l.initial.si l.initial.sv l.fn.s l.cap l.row.indexes.now l.row.values.now l.si l.sv l.step l.turns

@@ -3,4 +3,4 @@ use Rattle.strides.proofs.Steps.{stored}
 use Rattle.strides.proofs.store_step.Goals as goal
 
 pub returns : goal.returns
-returns c = rw (c.lower.ensures, c.value_at-v.ensures) (stored c.requires.meeting c.requires.stores)
+returns c = rw (c.min.ensures, c.value_at-v.ensures) (stored c.requires.meeting c.requires.stores)

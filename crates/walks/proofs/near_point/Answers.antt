@@ -1,5 +1,4 @@
-use Prim.Native.Nat.{◌+◌, ◌-◌}
-use native.Mathlib.Omega.{arith}
+use Rattle.std.proofs.Common.{◌+◌, ◌-◌, arith}
 use Rattle.walks.proofs.Halves.{Range, lower, found}
 use Rattle.walks.proofs.near_point.Goals as goal
 use Rattle.walks.proofs.near_point.Goals.{Then-place-indexes}

@@ -1,7 +1,6 @@
 -- `walks::near_point` meets its contract. The loop's invariant: the entries before `low` have indexes below the place, and the next step is at
 -- most one longer than what was passed. The measure is the number of entries from `low` on. Assumes nothing.
-use Prim.Native.Nat.{◌+◌, ◌-◌, ◌≤◌}
-use lib.ListN.{length}
+use Rattle.std.proofs.Common.{◌+◌, ◌-◌, ◌≤◌, length}
 use Rattle.walks.proofs.Halves.{Range}
 use Rattle.walks.proofs.near_point.Given as goal
 

@@ -1,5 +1,5 @@
--- `aggregate_svecf32::Header::check` meets its contract: its tests are those of the definition, in their order. Assumes nothing.
-use mathlib.Core.Path.{sym, ◌∙◌}
+-- `Header::check` meets its contract: its tests are those of the definition, in their order. Assumes nothing.
+use Rattle.std.proofs.Common.{sym, ◌∙◌}
 use Rattle.refusal.proofs.Told.{checked_answer}
 use Rattle.aggregate_svecf32.specs.States.{state_of}
 use Rattle.aggregate_svecf32.proofs.Header.check.Goals as goal

@@ -1,37 +1,37 @@
 -- `Header::move_to` meets its contract: after the tests the entries that the state holds are copied to the new region. Assumes nothing.
-use mathlib.Core.Path.{◌≡◌, refl, sym, ◌∙◌}
+use Rattle.std.proofs.Common.{◌≡◌, refl, sym, ◌∙◌}
 use borrow.Author.Rules.{rules}
-use Rattle.refusal.specs.declared.Checked.TheVariants.{Valid}
-use Rattle.regions.specs.Regions.{Pair, pair}
+use Rattle.refusal.specs.Answers.{Valid}
+use Rattle.refusal.proofs.Told.{checked_told}
+use Rattle.regions.specs.Regions.{Pair, pair, both}
 use Rattle.aggregate_svecf32.specs.Calls.{move_of}
-use Rattle.aggregate_svecf32.proofs.Moved.{sure_few, Moving, moving, move_fits}
+use Rattle.aggregate_svecf32.proofs.Moved.{sure_few, Moving, moving, move_fits, move_done, moved_header}
 use Rattle.aggregate_svecf32.proofs.Header.move_to.Goals as goal
-use Rattle.aggregate_svecf32.proofs.Header.move_to.Goals.{In_default, Start}
+use Rattle.aggregate_svecf32.proofs.Header.move_to.Goals.{In_ok-ready_to_move}
 
--- the lists of the state, and those that it moves to
-abbrev old : Start → Pair
-old s = pair s.args.ai.now s.args.av.now
-
-abbrev lists : Start → Pair
-lists s = pair s.args.ci.now s.args.cv.now
+abbrev lists : In_ok-ready_to_move → Pair
+lists c = pair c.args.ci.now c.args.cv.now
 
 -- the tests found nothing
-due : (c : In_default) → let s = (goal.at.In_default c).Start in let a = s.args in
-    move_of a.self (old s) a.more (lists s) a.start a.length ≡ Valid
-due c = sym (c.ready.ensures (lists (goal.at.In_default c).Start) refl refl).answer ∙ c.in_default.is
+due : (c : In_ok-ready_to_move) → let a = c.args in move_of a.self.now (both a.lists) a.more (lists c) a.start a.length ≡ Valid
+due c = sym (checked_told (c.ready_to_move.ensures)) ∙ c.in_ok-ready_to_move.was
 
-known : (c : In_default) → let s = (goal.at.In_default c).Start in let a = s.args in
-    Moving a.self (old s) a.more (lists s) a.start a.length
-known c = let s = (goal.at.In_default c).Start in let a = s.args in moving a.self (old s) a.more (lists s) a.start a.length (due c)
+known : (c : In_ok-ready_to_move) → let a = c.args in Moving a.self.now (both a.lists) a.more (lists c) a.start a.length
+known c = let a = c.args in moving a.self.now (both a.lists) a.more (lists c) a.start a.length (due c)
 
 pub copy-requires : goal.copy-requires
-copy-requires c = let t = (goal.at.copy-requires c).In_default in
+copy-requires c = let t = (goal.at.copy-requires c).In_ok-ready_to_move in
     let a = t.args in
-    move_fits a.self (old (goal.at.copy-requires c).Start) a.more (lists (goal.at.copy-requires c).Start) a.start a.length (known t)
+    move_fits a.self.now (both a.lists) a.more (lists t) a.start a.length (known t)
 
 pub overflow_add-self : goal.overflow_add-self
-overflow_add-self c = let t = (goal.at.overflow_add-self c).In_default in
-    let m = known t in
+overflow_add-self c = let m = known (goal.at.overflow_add-self c).In_ok-ready_to_move in
     let few = sure_few m.sure in
     let d = m.dims in
     search rules
+
+pub returns : goal.returns
+returns c = let t = (goal.at.returns c).In_ok-ready_to_move in
+    let a = t.args in
+    let d = move_done a.self.now (both a.lists) a.more (lists t) a.start a.length (known t) (due t) c.copy.ensures in
+    rw (← moved_header a.self.now (both a.lists) a.more (lists t) a.start a.length (known t) c.capacity-capacity.ensures) d

@@ -1,0 +1,16 @@
+-- `folds::l2` meets its contract: the tests of two vectors, then the sum over them. Assumes nothing.
+use Rattle.std.proofs.Common.{ap, ◌∙◌}
+use Rattle.sparse.specs.Cells.{zero32}
+use Rattle.sparse.specs.Vectors.{seen, at}
+use Rattle.sums.specs.declared.Differences.{Differences}
+use Rattle.sums.proofs.Inner.{differences_inner}
+use Rattle.folds.proofs.Answered.{passed, measured}
+use Rattle.folds.proofs.l2.Goals as goal
+
+pub sum_of-requires : goal.sum_of-requires
+sum_of-requires c = passed c.check_pair.ensures c.in_ok-check_pair.was
+
+pub returns : goal.returns
+returns c = let t = c.args in
+    measured c.check_pair.ensures c.in_ok-check_pair.was
+    (ap (λ (s : Differences). s.0) c.sum_of.ensures ∙ differences_inner (record { 0 = zero32 }) (at (seen t.a)) (at (seen t.b)) t.a.dims)

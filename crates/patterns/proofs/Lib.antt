@@ -1,2 +1,0 @@
--- Laws of NaN.
-pub mod Nan
