@@ -1,10 +1,10 @@
 -- The lowest place at which two vectors differ is in the first word that does. Assumes nothing.
-use Rattle.std.proofs.Common.{◌≡◌, ℕ, ◌+◌, ◌-◌, ◌*◌, ◌/◌, ◌%◌, ◌^◌, ◌≤◌, ◌<◌, Bool, true, false, cond, List, length, get_or, ⊎_elim, refl, sym, ap, ◌∙◌, arith, eq-or-lt_of_le, eq-eqb, ne_eqb, eqb-true}
+use Rattle.std.proofs.Common.{◌≡◌, ℕ, ◌+◌, ◌-◌, ◌*◌, ◌/◌, ◌%◌, ◌^◌, ◌≤◌, ◌<◌, Bool, true, false, not, cond, eqb, List, length, get_or, ⊎_elim, refl, sym, ap, ◌∙◌, arith, eq-or-lt_of_le, eq-eqb, ne_eqb, eqb-true}
 use Rattle.std.proofs.lemmas.Bool.{false≢true}
 use lib.Bits.{bit_xor, xor_lt}
 use lib.Count.{count_trailing_zeros}
 use Rattle.places.proofs.First.{found, none, before, most, hit}
-use Rattle.places.proofs.Below.{le_or_lt}
+use Rattle.places.proofs.Below.{le_or_lt, any_none, any_true}
 use Rattle.std.specs.declared.cmp.Ordering.TheVariants.{Less, Equal, Greater}
 use Rattle.bits.specs.Bits.{bit_of, bit_at}
 use Rattle.bits.specs.Vectors.{BitVector}
@@ -14,7 +14,9 @@ use Rattle.bit_words.specs.Ops.{both}
 use Rattle.bit_words.specs.declared.Op.TheVariants.{Xor}
 use Rattle.bit_words.proofs.Joins.{bit_join}
 use Rattle.bit_orders.proofs.Lowest.{Lowest, trailing_lowest, xor_some}
-use Rattle.bit_orders.specs.Orders.{lowest, order_below}
+use Rattle.places.specs.Search.{first_from}
+use borrow.Author.Tests.{not-false}
+use Rattle.bit_orders.specs.Orders.{lowest, order_below, same_words}
 use Rattle.bit_orders.specs.Words.{word_order, words_order}
 
 same_bits : (b : Bool) → both Xor b b ≡ false
@@ -128,6 +130,49 @@ module _ (a b : List ℕ) (i : ℕ) (hx : get_or a i 0 < 2 ^ 64) (hy : get_or b 
       (earlier_bits same)
       ∙ ap (λ (s : Bool). cond s Greater Less) (bit_at_lem a i lowest_bit low_bit.inside)
       ∙ sym (word_decides (get_or a i 0) (get_or b i 0) hx hy other)
+
+-- so words that compare as equal are the same, and others are not
+module _ (a b : List ℕ) (fits : (i : ℕ) → get_or a i 0 < 2 ^ 64) (fits' : (i : ℕ) → get_or b i 0 < 2 ^ 64) where
+  abbrev other_word : ℕ → Bool
+  other_word j = not (eqb (get_or a j 0) (get_or b j 0))
+
+  abbrev first_word : ℕ
+  first_word = first_from other_word (length a) 0
+
+  words_same : SameFirst a b (length a) → same_words a b ≡ true
+  words_same same = ap not (any_none other_word (length a) (λ j h. ap not (eq-eqb (get_or a j 0) (get_or b j 0) (same j h))))
+
+  words_differ : (i : ℕ) → i < length a → (get_or a i 0 ≡ get_or b i 0 → ⊥) → same_words a b ≡ false
+  words_differ i h other = ap not (any_true other_word (length a) i h (ap not (ne_eqb (get_or a i 0) (get_or b i 0) other)))
+
+  before_it : SameFirst a b first_word
+  before_it j h = eqb-true (get_or a j 0) (get_or b j 0) (not-false (eqb (get_or a j 0) (get_or b j 0)) (before other_word (length a) 0 j (omega arith) h))
+
+  at_it : first_word < length a → get_or a first_word 0 ≡ get_or b first_word 0 → ⊥
+  at_it h e =
+      let yes = hit other_word (length a) 0 (omega arith) in
+      false≢true (sym (ap not (eq-eqb (get_or a first_word 0) (get_or b first_word 0) e)) ∙ yes)
+
+  one_sided : (s : Bool) → cond s Greater Less ≡ Equal → ⊥
+  one_sided true e = absurd cc
+  one_sided false e = absurd cc
+
+  pub equal_same : words_order a b ≡ Equal → same_words a b ≡ true
+  equal_same e =
+      ⊎_elim
+      (λ all. words_same (λ j h. before_it j (omega arith)))
+      (λ some.
+      let x = first_word in
+      absurd (one_sided _ (sym (word_decides (get_or a x 0) (get_or b x 0) (fits x) (fits' x) (at_it some))
+      ∙ sym (words_decide a b x (fits x) (fits' x) (at_it some) some before_it) ∙ e)))
+      (le_or_lt (length a) first_word)
+
+  pub unequal_other : (words_order a b ≡ Equal → ⊥) → same_words a b ≡ false
+  unequal_other other =
+      ⊎_elim
+      (λ all. absurd (other (words_equal a b (λ j h. before_it j (omega arith)))))
+      (λ some. words_differ first_word some (at_it some))
+      (le_or_lt (length a) first_word)
 
 -- the padding decides nothing
 pub order_dims : {a b : BitVector} → Pair a b → order_below (bit_at a.words) (bit_at b.words) a.dims ≡ words_order a.words b.words

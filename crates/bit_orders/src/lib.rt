@@ -9,14 +9,6 @@ ghost use Rattle.bit_orders.specs.Words.{word_order, words_order};
 
 use std::cmp::Ordering;
 
-// Whether two lists of as many words are the same.
-pub fn same_words(a: &[u64], b: &[u64]) -> bool
-    requires { Alike a.now b.now }
-    ensures { result ≡ same_words a.now b.now }
-{
-    a == b
-}
-
 // How two words that differ compare: at their lowest differing bit the side with the one is Greater.
 fn compare_words(x: u64, y: u64) -> Ordering
     requires { x ≡ y → ⊥ }
@@ -31,7 +23,9 @@ fn compare_words(x: u64, y: u64) -> Ordering
     Ordering::Less
 }
 
-// How two lists of as many words compare. By place: a `zip` would test two ends.
+// How two lists of as many words compare. By place: a `zip` would test two ends. Out of line: where the loop stands in an
+// exported call, the compiler sets what the call gives at every turn.
+#[inline(never)]
 pub fn compare_all(a: &[u64], b: &[u64]) -> Ordering
     requires { Alike a.now b.now }
     ensures { result ≡ words_order a.now b.now }
@@ -43,4 +37,12 @@ pub fn compare_all(a: &[u64], b: &[u64]) -> Ordering
         }
     }
     Ordering::Equal
+}
+
+// Whether two lists of as many words are the same. By the order: `==` takes half as long again.
+pub fn same_words(a: &[u64], b: &[u64]) -> bool
+    requires { Alike a.now b.now }
+    ensures { result ≡ same_words a.now b.now }
+{
+    matches!(compare_all(a, b), Ordering::Equal)
 }

@@ -40,11 +40,13 @@ pub fn tell_checked(r: Result<(), Refusal>, place: &mut usize) -> u32
     tell(r, place)
 }
 
-// A float.
+// A float. A refusal does not touch its slot, nor the three of the next.
 pub fn tell_distance(r: Result<f32, Refusal>, value: &mut f32, place: &mut usize) -> u32
     ensures { heard (value.old ∷ []) (distance_says r) ≡ gives result place.new [] (value.new ∷ []) }
 {
-    *value = r.unwrap_or(*value);
+    if let Ok(x) = r {
+        *value = x;
+    }
     tell(r, place)
 }
 
@@ -59,14 +61,11 @@ pub fn tell_summed(
     ensures { heard (xy.old ∷ x2.old ∷ y2.old ∷ []) (summed_says r)
         ≡ gives result place.new [] (xy.new ∷ x2.new ∷ y2.new ∷ []) }
 {
-    let t = r.unwrap_or(Three {
-        xy: *xy,
-        x2: *x2,
-        y2: *y2,
-    });
-    *xy = t.xy;
-    *x2 = t.x2;
-    *y2 = t.y2;
+    if let Ok(t) = r {
+        *xy = t.xy;
+        *x2 = t.x2;
+        *y2 = t.y2;
+    }
     tell(r, place)
 }
 

@@ -174,8 +174,8 @@ fn room_for(op: Op, dims: u32, a: usize, b: usize) -> usize
     ensures { result ≡ room_for op dims a b }
 {
     match op {
-        Op::Add | Op::Sub => (a + b).min(dims as usize),
-        Op::Mul => a.min(b),
+        Op::Add | Op::Sub => walks::smaller(a + b, dims as usize),
+        Op::Mul => walks::smaller(a, b),
     }
 }
 

@@ -2,7 +2,7 @@
 
 #![tactic(auto)]
 
-ghost use Rattle.std.specs.Prelude.{◌≡◌, false, not, eqb, length, MatchOption, IfSome};
+ghost use Rattle.std.specs.Prelude.{◌≡◌, false, not, eqb, length, MatchOption};
 ghost use Rattle.lines.specs.Lines.{Reads};
 ghost use Rattle.reading.specs.Starts.{has_line, rest, first_vector, first_name};
 ghost use Rattle.reading.specs.Parts.{IsFirst};
@@ -37,17 +37,23 @@ impl<'a> Input<'a> {
     // Reads a vector's line.
     pub fn vector_line(&mut self, room: &mut Room) -> Option<Shape>
         ensures entries { Reads (first_vector self.old.rest.now) room.old result room.new }
-        ensures left { IfSome result (λ _. self.new.rest.now ≡ rest self.old.rest.now) }
+        ensures left { MatchOption result (self.new ≡ self.old) (λ _. self.new.rest.now ≡ rest self.old.rest.now) }
     {
-        lines::vector(self.line()?, room)
+        let mut after = *self;
+        let shape = lines::vector(after.line()?, room)?;
+        *self = after;
+        Some(shape)
     }
 
     // Reads the line that names the operation.
     pub fn operation_line(&mut self) -> Option<Op>
         ensures name { result ≡ first_name self.old.rest.now }
-        ensures left { IfSome result (λ _. self.new.rest.now ≡ rest self.old.rest.now) }
+        ensures left { MatchOption result (self.new ≡ self.old) (λ _. self.new.rest.now ≡ rest self.old.rest.now) }
     {
-        lines::operation(self.line()?)
+        let mut after = *self;
+        let op = lines::operation(after.line()?)?;
+        *self = after;
+        Some(op)
     }
 
     // Whether anything follows.

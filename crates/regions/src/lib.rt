@@ -69,6 +69,6 @@ pub fn copy(lists: Lists<'_>, from: usize, n: usize, ci: &mut [u32], cv: &mut [f
     requires { Fitting from n (both lists) to (pair ci.old cv.old) }
     ensures { Copied from n (both lists.entry) to (pair ci.old cv.old) (pair ci.new cv.new) }
 {
-    ci[to..to + n].copy_from_slice(&lists.indexes[from..from + n]);
-    cv[to..to + n].copy_from_slice(&lists.values[from..from + n]);
+    walks::copy(&lists.indexes[from..from + n], &mut ci[to..to + n]);
+    walks::copy(&lists.values[from..from + n], &mut cv[to..to + n]);
 }

@@ -1,9 +1,9 @@
 -- Entries that are not the same, and what the first of them tells of two vectors. Assumes nothing.
-use Rattle.std.proofs.Common.{◌≡◌, ℕ, ◌+◌, ◌≤◌, ◌<◌, true, false, not, eqb, sym, ◌∙◌, arith, below_more, eq-eqb, ne_eqb, eqb-true}
+use Rattle.std.proofs.Common.{◌≡◌, ℕ, ◌+◌, ◌≤◌, ◌<◌, true, false, not, eqb, sym, ◌∙◌, arith, below_more, eq-eqb, ne_eqb, eqb-true, ⊎_elim}
 use lib.Ieee.{eq, ne}
 use borrow.Author.Tests.{not-false}
-use Rattle.places.proofs.Below.{and_true}
-use Rattle.places.proofs.First.{found, none, none_first}
+use Rattle.places.proofs.Below.{and_true, le_or_lt}
+use Rattle.places.proofs.First.{found, none, most, some_first, none_first}
 use Rattle.sparse.specs.Vectors.{Vector, size}
 use Rattle.sparse_orders.specs.Loops.{first_other}
 use Rattle.sparse_orders.specs.Orders.{index_at, value_at, same_entry, same_entries}
@@ -45,3 +45,14 @@ module _ (a b : Vector) where
 
   pub none_other : size a ≡ size b → size a ≤ first_other a b (size a) → same_entries a b ≡ true
   none_other e h = rw (eq-eqb (size a) (size b) e, none_first (λ i. not (same_entry a b i)) (size a) h)
+
+  pub some_other : size a ≡ size b → first_other a b (size a) < size a → same_entries a b ≡ false
+  some_other e h = rw (eq-eqb (size a) (size b) e, some_first (λ i. not (same_entry a b i)) (size a) h)
+
+  -- so vectors of as many entries are equal if no entry is another
+  pub others_tell : size a ≡ size b → eqb (first_other a b (size a)) (size a) ≡ same_entries a b
+  others_tell e =
+      ⊎_elim
+      (λ h. eq-eqb (first_other a b (size a)) (size a) (omega (arith, most (λ i. not (same_entry a b i)) (size a) 0)) ∙ sym (none_other e h))
+      (λ h. ne_eqb (first_other a b (size a)) (size a) (λ q. omega arith) ∙ sym (some_other e h))
+      (le_or_lt (size a) (first_other a b (size a)))

@@ -16,12 +16,15 @@ use sparse::SVectBorrowed;
 use std::cmp::Ordering;
 
 // Whether two vectors have the same dims and entries; NaN equals nothing. Refuses as `SVectBorrowed::check` does, for the
-// left and then for the right.
+// left and then for the right. A derive would compare all indexes before the first value.
 pub fn eq(a: SVectBorrowed<'_>, b: SVectBorrowed<'_>) -> Result<bool, Refusal>
     ensures { Equals (seen a.entry) (seen b.entry) result }
 {
     sparse::check_each(a, b)?;
-    Ok(a == b)
+    if a.dims != b.dims || a.indexes.len() != b.indexes.len() {
+        return Ok(false);
+    }
+    Ok(first_other(a, b) == a.indexes.len())
 }
 
 // How many entries from the first on two vectors have alike.

@@ -44,7 +44,7 @@ pub fn subvector(
         return Err(Refusal::Room(n));
     }
     move_indexes(&v.indexes[s..e], span.start, oi);
-    ov[..n].copy_from_slice(&v.values[s..e]);
+    walks::copy(&v.values[s..e], &mut ov[..n]);
     Ok(Written {
         dims: span.end - span.start,
         len: n,

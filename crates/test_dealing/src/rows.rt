@@ -2,6 +2,8 @@
 // 12 entries, whole numbers between -50,000 and 50,000. The magnitudes at an index add up to less than 16,777,216,
 // and at some to nearly as much: the program prints their sums.
 
+ghost use Rattle.std.specs.Prelude.{◌≤◌, length};
+
 use sparse::SVectBorrowed;
 
 pub const ROWS: usize = 2000;
@@ -84,7 +86,9 @@ pub fn row<'a>(
     kind: Kind,
     indexes: &'a mut [u32; 12],
     values: &'a mut [f32; 12],
-) -> SVectBorrowed<'a> {
+) -> SVectBorrowed<'a>
+    ensures { length result.indexes.now ≤ 12 }
+{
     let mut i = mixed(r % HALF, 2) % 6;
     let mut len = mixed(r % HALF, 1) % 13;
     for at in 0..len {

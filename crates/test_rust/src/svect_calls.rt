@@ -1,5 +1,7 @@
 // The calls of `svect`.
 
+ghost use Rattle.std.specs.Prelude.{◌≤◌};
+
 use crate::read::Handed;
 use crate::show;
 use refusal::{Merged, Refusal, Written};
@@ -8,10 +10,12 @@ use sparse::SVectBorrowed;
 // The places of a written vector.
 const PLACES: usize = 512;
 
-// The room that add and sub ask for: so much is lent to them, and no more.
-fn room(a: SVectBorrowed<'_>, b: SVectBorrowed<'_>) -> usize {
+// The room that add and sub ask for, of a written vector's places: so much is lent to them, and no more.
+fn room(a: SVectBorrowed<'_>, b: SVectBorrowed<'_>) -> usize
+    ensures { result ≤ 512 }
+{
     let both = a.indexes.len().saturating_add(b.indexes.len());
-    both.min(a.dims as usize)
+    both.min(a.dims as usize).min(PLACES)
 }
 
 // Lends lists to a call that writes, of so many places or all that there are, and shows what it wrote.

@@ -136,6 +136,17 @@ pub fn put(oi: &mut [u32], ov: &mut [f32], n: usize, place: u32, z: Cell) -> usi
     n
 }
 
+// Writes a list over another of the same length. The library's `copy_from_slice` promises the same, but calls the C library's
+// `memmove`, which the archive for C would then need from outside.
+pub fn copy<T: Copy>(from: &[T], to: &mut [T])
+    requires { length from.now ≡ length to.old }
+    ensures { to.new ≡ from.now }
+{
+    for i in 0..from.len() {
+        to[i] = from[i];
+    }
+}
+
 // How many of the rising indexes are below `place`, found by halving. For the crates above, not for users.
 pub fn partition_point(indexes: &[u32], place: u32) -> usize
     requires { Rising indexes.now }
@@ -206,7 +217,7 @@ pub fn way_on(turns: usize, left: usize, right: usize) -> Way
     Way::Meeting
 }
 
-// The smaller of two lengths: the library's `min`. No crate here calls it; it is a call that docs/PROMISES.md names.
+// The smaller of two lengths.
 pub fn smaller(a: usize, b: usize) -> usize
     ensures { result ≡ min a b }
 {
@@ -221,5 +232,5 @@ pub fn run_length(way: Way, left: usize, right: usize) -> usize
         Way::Plain => 256,
         Way::Quick | Way::Meeting => 64,
     };
-    left.min(right).min(most)
+    smaller(smaller(left, right), most)
 }

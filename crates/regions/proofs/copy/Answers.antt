@@ -12,6 +12,6 @@ returns c = let a = c.args in
     let f = add-sub_cancel_left a.to a.n in
     let r = c.requires in
     record {
-      indexes = copied_lent a.from a.n a.to k j a.lists.indexes.now a.ci.now r.indexes r.room e f c.copy_from_slice.ensures.after;
-      values = copied_lent a.from a.n a.to k j a.lists.values.now a.cv.now r.values r.room' e f c.copy_from_slice-2.ensures.after;
+      indexes = copied_lent a.from a.n a.to k j a.lists.indexes.now a.ci.now r.indexes r.room e f c.copy.ensures;
+      values = copied_lent a.from a.n a.to k j a.lists.values.now a.cv.now r.values r.room' e f c.copy-2.ensures;
     }

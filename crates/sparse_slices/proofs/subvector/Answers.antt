@@ -41,8 +41,8 @@ returns-then-oi-n c =
     let size = slice_size _ (whole t.In_ok-check) p c.partition_point-s.ensures c.partition_point-e.ensures in
     refused _ (rw (passed t.In_ok-check, p.fair, size) (⊎_elim (room_indexes _ _ _) (λ g. room_values _ _ _ g.1) c.then-oi-n.either))
 
-pub slice_bounds-copy_from_slice-end-3 : goal.slice_bounds-copy_from_slice-end-3
-slice_bounds-copy_from_slice-end-3 c = omega (arith, (whole (goal.at.slice_bounds-copy_from_slice-end-3 c).In_ok-check).even)
+pub slice_bounds-copy-end : goal.slice_bounds-copy-end
+slice_bounds-copy-end c = omega (arith, (whole (goal.at.slice_bounds-copy-end c).In_ok-check).even)
 
 pub returns : goal.returns
 returns c =
@@ -53,4 +53,4 @@ returns c =
     slice_written _ s p c.partition_point-s.ensures c.partition_point-e.ensures
     (rw (passed t.In_ok-check, p.fair, size) (room_enough _ _ _ c.if-oi-n.false c.if-ov-n.false))
     c.move_indexes.ensures
-    c.copy_from_slice.ensures.after
+    c.copy.ensures
