@@ -87,7 +87,7 @@ pub fn row<'a>(
     indexes: &'a mut [u32; 12],
     values: &'a mut [f32; 12],
 ) -> SVectBorrowed<'a>
-    ensures { length result.indexes.now ≤ 12 }
+    ensures { (length result.indexes.now ≤ 12) × (length result.values.now ≤ 12) }
 {
     let mut i = mixed(r % HALF, 2) % 6;
     let mut len = mixed(r % HALF, 1) % 13;
